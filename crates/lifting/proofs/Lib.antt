@@ -1,0 +1,6 @@
+pub mod WrapLaws
+pub mod Bits
+pub mod Compose
+pub mod Reverse
+pub mod Locality
+pub mod Uses

@@ -1,0 +1,4 @@
+pub mod Wrap
+pub mod Program
+pub mod Row
+pub mod Valid
