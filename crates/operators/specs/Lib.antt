@@ -1,0 +1,5 @@
+pub mod Letters
+pub mod Figures
+pub mod Pieces
+pub mod Block
+pub mod Bench
