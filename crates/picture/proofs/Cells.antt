@@ -1,0 +1,125 @@
+-- The places of each use of a stage lie in one cell, a 4 x 4 square of the grid moved d up and left: d = 0 for the cores, 2 for the filters.
+-- So a set of places that goes by the cell has each use wholly inside it or wholly outside, and keeps its agreement through the stage.
+use Prim.Native.Nat.{ℕ, _+_, _-_, _*_, _/_, _%_, _<_}
+use mathlib.Core.Path.{_≡_, refl}
+use mathlib.Core.Logic.{inl, inr}
+use mathlib.Core.List.{List, [], _∷_, _++_}
+use native.Mathlib.Omega.{arith}
+use native.Mathlib.Nat.{add-mul}
+use lib.Arith.{digits-div, digits-mod}
+use Rattle.lifting.specs.Program.{Program, end, apply, Operator, Core, SquareFilter, FourFilter}
+use Rattle.lifting.proofs.Locality.{All, OneSide, Local, all-map, local-then}
+use Rattle.operators.specs.Figures.{core, squareFilter, fourFilter}
+use Rattle.picture.specs.Level.{cell, strip, square, coreAt, squareFilterAt, fourFilterAt, cores, filters}
+use Rattle.picture.proofs.Stages.{OfCores, OfFilters, of-cores, of-filters}
+
+-- the cell of row (or column) r
+abbrev pub zone : ℕ → ℕ → ℕ
+zone d r = (r + d) / 4
+
+-- the place i of a grid of p squares across lies in the cell (a, b)
+pub record InCell (d p a b i : ℕ) : Type 0 where
+  pub row : zone d (i / (4 * p)) ≡ a
+  pub column : zone d (i % (4 * p)) ≡ b
+
+-- the places whose cell is in Q
+abbrev pub Cells : ℕ → ℕ → (ℕ → ℕ → Type 0) → ℕ → Type 0
+Cells d p Q i = Q (zone d (i / (4 * p))) (zone d (i % (4 * p)))
+
+all-append : (P : ℕ → Type 0) (ps qs : List ℕ) → All P ps → All P qs → All P (ps ++ qs)
+all-append P [] qs h k = k
+all-append P (p ∷ ps) qs h k = (h .0, all-append P ps qs (h .1) k)
+
+-- four places, and a square by its rows
+pub all-strip : (P : ℕ → Type 0) (step i : ℕ) → P i → P (i + step) → P (i + step + step) → P (i + step + step + step) → All P (strip step i)
+all-strip P step i h k l m = (h, (k, (l, (m, tt))))
+
+pub all-square : (P : ℕ → Type 0) (w i : ℕ) → All P (strip 1 i) → All P (strip 1 (i + w)) → All P (strip 1 (i + w + w)) → All P (strip 1 (i + w + w + w)) → All P (square w i)
+unfolding square
+all-square P w i h k l m =
+    let third = strip 1 (i + w + w) in
+    let fourth = strip 1 (i + w + w + w) in
+    all-append P (strip 1 i) (strip 1 (i + w) ++ third ++ fourth) h (all-append P (strip 1 (i + w)) (third ++ fourth) k (all-append P third fourth l m))
+
+module _ (d p a b : ℕ) where
+  in-cell : (r c : ℕ) {i : ℕ} → i ≡ cell p r c → c < 4 * p → zone d r ≡ a → zone d c ≡ b → InCell d p a b i
+  in-cell r c e h f g = record { row = rw (e, digits-div r h) f; column = rw (e, digits-mod r h) g }
+
+  down : (r c i : ℕ) → i ≡ cell p r c → i + 4 * p ≡ cell p (r + 1) c
+  down r c i e = rw (add-mul r 1 (4 * p)) (omega arith)
+
+  -- four places along a row, and four down a column, of which the first and the last lie in one cell
+  pub strip-across : (r c i : ℕ) → i ≡ cell p r c → c + 3 < 4 * p → zone d r ≡ a → zone d c ≡ b → zone d (c + 3) ≡ b → All (InCell d p a b) (strip 1 i)
+  strip-across r c i e h f g k =
+      all-strip (InCell d p a b) 1 i
+      (in-cell r c e (omega arith) f g)
+      (in-cell r (c + 1) (omega arith) (omega arith) f (omega arith))
+      (in-cell r (c + 2) (omega arith) (omega arith) f (omega arith))
+      (in-cell r (c + 3) (omega arith) h f k)
+
+  pub strip-down : (r c i : ℕ) → i ≡ cell p r c → c < 4 * p → zone d r ≡ a → zone d (r + 3) ≡ a → zone d c ≡ b → All (InCell d p a b) (strip (4 * p) i)
+  strip-down r c i e h f g k =
+      let e1 = down r c i e in
+      let e2 = down (r + 1) c (i + 4 * p) e1 in
+      let e3 = down (r + 1 + 1) c (i + 4 * p + 4 * p) e2 in
+      all-strip (InCell d p a b) (4 * p) i
+      (in-cell r c e h f k)
+      (in-cell (r + 1) c e1 h (omega arith) k)
+      (in-cell (r + 1 + 1) c e2 h (omega arith) k)
+      (in-cell (r + 1 + 1 + 1) c e3 h (omega arith) k)
+
+  -- a square of which the first and the last place lie in one cell
+  pub square-in-cell : (r c i : ℕ) → i ≡ cell p r c → c + 3 < 4 * p → zone d r ≡ a → zone d (r + 3) ≡ a → zone d c ≡ b → zone d (c + 3) ≡ b → All (InCell d p a b) (square (4 * p) i)
+  square-in-cell r c i e h f g k l =
+      let e1 = down r c i e in
+      let e2 = down (r + 1) c (i + 4 * p) e1 in
+      let e3 = down (r + 1 + 1) c (i + 4 * p + 4 * p) e2 in
+      all-square (InCell d p a b) (4 * p) i
+      (strip-across r c i e h f k l)
+      (strip-across (r + 1) c (i + 4 * p) e1 h (omega arith) k l)
+      (strip-across (r + 1 + 1) c (i + 4 * p + 4 * p) e2 h (omega arith) k l)
+      (strip-across (r + 1 + 1 + 1) c (i + 4 * p + 4 * p + 4 * p) e3 h (omega arith) k l)
+
+-- ---- the uses of each stage
+
+pub core-in-cell : (p j i : ℕ) → i < p → All (InCell 0 p j i) (square (4 * p) (cell p (4 * j) (4 * i)))
+core-in-cell p j i h = square-in-cell 0 p j i (4 * j) (4 * i) _ refl (omega arith) (omega arith) (omega arith) (omega arith) (omega arith)
+
+pub square-filter-in-cell : (p j i : ℕ) → i < p - 1 → All (InCell 2 p (j + 1) (i + 1)) (square (4 * p) (cell p (4 * j + 2) (4 * i + 2)))
+square-filter-in-cell p j i h =
+    square-in-cell 2 p (j + 1) (i + 1) (4 * j + 2) (4 * i + 2) _ refl (omega arith) (omega arith) (omega arith) (omega arith) (omega arith)
+
+pub row-filter-in-cell : (p r i : ℕ) → i < p - 1 → All (InCell 2 p (zone 2 r) (i + 1)) (strip 1 (cell p r (4 * i + 2)))
+row-filter-in-cell p r i h = strip-across 2 p (zone 2 r) (i + 1) r (4 * i + 2) _ refl (omega arith) refl (omega arith) (omega arith)
+
+pub column-filter-in-cell : (p c j : ℕ) → c < 4 * p → All (InCell 2 p (j + 1) (zone 2 c)) (strip (4 * p) (cell p (4 * j + 2) c))
+column-filter-in-cell p c j h = strip-down 2 p (j + 1) (zone 2 c) (4 * j + 2) c _ refl h (omega arith) (omega arith) refl
+
+-- ---- sets of cells
+
+module _ (p : ℕ) (Q : ℕ → ℕ → Type 0) (decide : (a b : ℕ) → Dec (Q a b)) where
+  one-side : (d a b : ℕ) (ps : List ℕ) → Dec (Q a b) → All (InCell d p a b) ps → OneSide (Cells d p Q) ps
+  one-side d a b ps (yes q) h = inl (all-map ps (λ i m. rw (m .row, m .column) q) h)
+  one-side d a b ps (no f) h = inr (all-map ps (λ i m q. f (rw (m .row, m .column) at q)) h)
+
+  use-local : (d a b : ℕ) (o : Operator) (s : Program) (ps : List ℕ) → All (InCell d p a b) ps → Local (Cells d p Q) (apply o s ps end)
+  use-local d a b o s ps h = (one-side d a b ps (decide a b) h, tt)
+
+  core-uses : (q : ℕ) → OfCores (Local (Cells 0 p Q)) p q
+  unfolding coreAt
+  core-uses q j i l h = use-local 0 j i Core core (square (4 * p) (cell p (4 * j) (4 * i))) (core-in-cell p j i h)
+
+  filter-uses : (q : ℕ) → OfFilters (Local (Cells 2 p Q)) p q
+  unfolding squareFilterAt fourFilterAt
+  filter-uses q =
+      record {
+        squares = λ j i l h. use-local 2 (j + 1) (i + 1) SquareFilter squareFilter (square (4 * p) (cell p (4 * j + 2) (4 * i + 2))) (square-filter-in-cell p j i h);
+        rows = λ r i l h. use-local 2 (zone 2 r) (i + 1) FourFilter fourFilter (strip 1 (cell p r (4 * i + 2))) (row-filter-in-cell p r i h);
+        columns = λ c j h l. use-local 2 (j + 1) (zone 2 c) FourFilter fourFilter (strip (4 * p) (cell p (4 * j + 2) c)) (column-filter-in-cell p c j h);
+      }
+
+  pub cores-local : (q : ℕ) → Local (Cells 0 p Q) (cores p q)
+  cores-local q = of-cores (Local (Cells 0 p Q)) tt (local-then _) p q (core-uses q)
+
+  pub filters-local : (q : ℕ) → 0 < p → 0 < q → Local (Cells 2 p Q) (filters p q)
+  filters-local q wide tall = of-filters (Local (Cells 2 p Q)) tt (local-then _) p q wide tall (filter-uses q)

@@ -1,0 +1,10 @@
+pub mod NumberLaws
+pub mod Table
+pub mod Geometry
+pub mod Grid
+pub mod Levels
+pub mod OnePlanes
+pub mod Stages
+pub mod Cells
+pub mod Windows
+pub mod Sanity
