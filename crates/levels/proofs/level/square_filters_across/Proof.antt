@@ -1,0 +1,30 @@
+-- After i turns the grid is what i uses make of it.
+use Prim.Native.Nat.{_+_, _*_, _-_, _≤_}
+use mathlib.Core.Path.{_≡_, refl, _∙_}
+use native.Mathlib.Omega.{arith}
+use lib.ListN.{length}
+use Rattle.lifting.specs.Program.{run, each}
+use Rattle.picture.specs.Level.{squareFilterAt}
+use Rattle.levels.proofs.Loops.{each-none, each-more}
+use Rattle.levels.proofs.level.square_filters_across.Statement.{statement}
+use Rattle.levels.proofs.level.square_filters_across.Tie as tie
+
+abbrev Inv-loop : tie.InvT-loop
+Inv-loop grid₀ w first n i₀ grid i = (i ≤ n) × (length grid ≡ length grid₀) × (grid ≡ run (each i (λ k. squareFilterAt w (first + (4 * k + 2)))) grid₀)
+
+abbrev μ-loop : tie.MeasureT-loop
+μ-loop grid₀ w first n i₀ grid i = n - i
+
+loop-again : tie.Need-loop-again Inv-loop μ-loop
+loop-again c =
+    let v = c .before .before .before .before .loop .inv in
+    (omega arith, c .before .square-filter-at .kept .0 ∙ v .1, each-more _ _ _ _ _ (v .2) (c .before .square-filter-at .ensures))
+
+returns : tie.Need-returns Inv-loop μ-loop
+returns c = let e : c .before .loop .i ≡ c .before .before .args .n = omega arith in rw e at (c .before .loop .inv .2)
+
+pub square-filters-across-spec : {M : Type 1} → statement M
+square-filters-across-spec =
+    tie.close
+    (tie.spec Inv-loop μ-loop (λ c. (omega arith, refl, each-none _ _)) (λ c. omega arith) (λ c. omega arith) (λ c. omega arith) (λ c κs. omega arith) (λ c. omega arith)
+    (λ c. omega arith) loop-again (λ c. c .before .loop .inv .1) returns)

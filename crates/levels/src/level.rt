@@ -1,0 +1,148 @@
+// One level of the inverse transform, in place on a grid of p squares across and q down.
+ghost use mathlib.Core.Path.{_≡_};
+ghost use mathlib.Core.Bool.{Bool};
+ghost use Prim.Native.Nat.{ℕ, _+_, _-_, _*_, _<_, _≤_};
+ghost use lib.ListN.{length};
+ghost use Rattle.lifting.specs.Program.{run, each, _then_};
+ghost use Rattle.picture.specs.Level.{coreAt, squareFilterAt, fourFilterAt, cores as coreProgram, squareFilters, rowFilters, columnFilters, filters as filterProgram, level as levelProgram};
+use crate::square::get_four;
+use crate::square::get_square;
+use crate::square::put_four;
+use crate::square::put_square;
+use blocks::core;
+use blocks::square_filter;
+use overlap::four_filter;
+
+// ---- one use
+
+fn core_at(grid: &mut [i32], w: usize, at: usize)
+    requires { ⌜ at + w + w + w + 3 < length (now grid) ⌝ }
+    ensures { λ r. ⌜ now (grid .exit) ≡ run (coreAt w at) (now (grid .entry)) ⌝ }
+{
+    let b = core(get_square(grid, w, at));
+    put_square(grid, w, at, b);
+}
+
+fn square_filter_at(grid: &mut [i32], w: usize, at: usize)
+    requires { ⌜ at + w + w + w + 3 < length (now grid) ⌝ }
+    ensures { λ r. ⌜ now (grid .exit) ≡ run (squareFilterAt w at) (now (grid .entry)) ⌝ }
+{
+    let b = square_filter(get_square(grid, w, at));
+    put_square(grid, w, at, b);
+}
+
+fn four_filter_at(grid: &mut [i32], step: usize, at: usize)
+    requires { ⌜ at + step + step + step < length (now grid) ⌝ }
+    ensures { λ r. ⌜ now (grid .exit) ≡ run (fourFilterAt step at) (now (grid .entry)) ⌝ }
+{
+    let v = get_four(grid, step, at);
+    let f = four_filter(v[0], v[1], v[2], v[3]);
+    put_four(grid, step, at, [f.a, f.b, f.c, f.d]);
+}
+
+// ---- n uses in a line
+
+fn cores_across(grid: &mut [i32], w: usize, first: usize, n: usize)
+    requires { ⌜ first + 4 * n + w + w + w ≤ length (now grid) ⌝ }
+    ensures { λ r. ⌜ now (grid .exit) ≡ run (each n (λ i. coreAt w (first + 4 * i))) (now (grid .entry)) ⌝ }
+{
+    for i in 0..n {
+        core_at(grid, w, first + 4 * i);
+    }
+}
+
+fn square_filters_across(grid: &mut [i32], w: usize, first: usize, n: usize)
+    requires { ⌜ first + (4 * n + 2) + w + w + w ≤ length (now grid) ⌝ }
+    ensures { λ r. ⌜ now (grid .exit) ≡ run (each n (λ i. squareFilterAt w (first + (4 * i + 2)))) (now (grid .entry)) ⌝ }
+{
+    for i in 0..n {
+        square_filter_at(grid, w, first + (4 * i + 2));
+    }
+}
+
+fn four_filters(grid: &mut [i32], step: usize, first: usize, stride: usize, n: usize)
+    requires { ⌜ ((i : ℕ) → i < n → first + i * stride + step + step + step < length (now grid)) ⌝ }
+    ensures { λ r. ⌜ now (grid .exit) ≡ run (each n (λ i. fourFilterAt step (first + i * stride))) (now (grid .entry)) ⌝ }
+{
+    for i in 0..n {
+        four_filter_at(grid, step, first + i * stride);
+    }
+}
+
+// ---- the uses of a level, stage by stage
+
+fn cores(grid: &mut [i32], p: usize, q: usize)
+    requires { ⌜ 16 * (p * q) ≤ length (now grid) ⌝ }
+    requires { ⌜ (p ≤ 2100) × (q ≤ 1652) ⌝ }
+    ensures { λ r. ⌜ now (grid .exit) ≡ run (coreProgram p q) (now (grid .entry)) ⌝ }
+{
+    let w = 4 * p;
+    for j in 0..q {
+        cores_across(grid, w, 4 * j * w, p);
+    }
+}
+
+fn square_filters(grid: &mut [i32], p: usize, q: usize)
+    requires { ⌜ 16 * (p * q) ≤ length (now grid) ⌝ }
+    requires { ⌜ (0 < p) × (p ≤ 2100) × (0 < q) × (q ≤ 1652) ⌝ }
+    ensures { λ r. ⌜ now (grid .exit) ≡ run (squareFilters p q) (now (grid .entry)) ⌝ }
+{
+    let w = 4 * p;
+    let across = p - 1;
+    let down = q - 1;
+    for j in 0..down {
+        square_filters_across(grid, w, (4 * j + 2) * w, across);
+    }
+}
+
+fn row_filters(grid: &mut [i32], p: usize, q: usize, r: usize)
+    requires { ⌜ 16 * (p * q) ≤ length (now grid) ⌝ }
+    requires { ⌜ (0 < p) × (p ≤ 2100) × (q ≤ 1652) × (r < 4 * q) ⌝ }
+    ensures { λ o. ⌜ now (grid .exit) ≡ run (rowFilters p r) (now (grid .entry)) ⌝ }
+{
+    four_filters(grid, 1, r * (4 * p) + 2, 4, p - 1);
+}
+
+fn column_filters(grid: &mut [i32], p: usize, q: usize, c: usize)
+    requires { ⌜ 16 * (p * q) ≤ length (now grid) ⌝ }
+    requires { ⌜ (c < 4 * p) × (p ≤ 2100) × (0 < q) × (q ≤ 1652) ⌝ }
+    ensures { λ r. ⌜ now (grid .exit) ≡ run (columnFilters p q c) (now (grid .entry)) ⌝ }
+{
+    let w = 4 * p;
+    four_filters(grid, w, 2 * w + c, 4 * w, q - 1);
+}
+
+fn edge_columns(grid: &mut [i32], p: usize, q: usize)
+    requires { ⌜ 16 * (p * q) ≤ length (now grid) ⌝ }
+    requires { ⌜ (0 < p) × (p ≤ 2100) × (0 < q) × (q ≤ 1652) ⌝ }
+    ensures { λ r. ⌜ now (grid .exit) ≡ run (columnFilters p q 0 then columnFilters p q 1 then columnFilters p q (4 * p - 2) then columnFilters p q (4 * p - 1)) (now (grid .entry)) ⌝ }
+{
+    column_filters(grid, p, q, 0);
+    column_filters(grid, p, q, 1);
+    column_filters(grid, p, q, 4 * p - 2);
+    column_filters(grid, p, q, 4 * p - 1);
+}
+
+fn filters(grid: &mut [i32], p: usize, q: usize)
+    requires { ⌜ 16 * (p * q) ≤ length (now grid) ⌝ }
+    requires { ⌜ (0 < p) × (p ≤ 2100) × (0 < q) × (q ≤ 1652) ⌝ }
+    ensures { λ r. ⌜ now (grid .exit) ≡ run (filterProgram p q) (now (grid .entry)) ⌝ }
+{
+    square_filters(grid, p, q);
+    row_filters(grid, p, q, 0);
+    row_filters(grid, p, q, 1);
+    row_filters(grid, p, q, 4 * q - 2);
+    row_filters(grid, p, q, 4 * q - 1);
+    edge_columns(grid, p, q);
+}
+
+pub fn level(grid: &mut [i32], filtered: bool, p: usize, q: usize)
+    requires { ⌜ 16 * (p * q) ≤ length (now grid) ⌝ }
+    requires { ⌜ (0 < p) × (p ≤ 2100) × (0 < q) × (q ≤ 1652) ⌝ }
+    ensures { λ r. ⌜ now (grid .exit) ≡ run (levelProgram filtered p q) (now (grid .entry)) ⌝ }
+{
+    cores(grid, p, q);
+    if filtered {
+        filters(grid, p, q);
+    }
+}
