@@ -1,0 +1,6 @@
+pub mod Parts
+pub mod Signs
+pub mod Checks
+pub mod Written
+pub mod RoundTrips
+pub mod Sanity

@@ -1,0 +1,118 @@
+-- Words and numbers in lists of bytes: what stands behind a part that has been written moves up by what is written next.
+use Prim.Native.Nat.{ℕ, zero, suc, _+_, _*_, _/_, _%_, _≤_, _<_}
+use mathlib.Core.Path.{_≡_, refl, sym, ap, _∙_}
+use mathlib.Core.List.{List, [], _∷_, _++_, append-assoc, append-nil}
+use native.Mathlib.Omega.{arith}
+use native.Mathlib.Numerals.{add-one}
+use lib.ListN.{length, take, drop, getD, set, length-append, take-append-drop}
+use lib.Seq.{sets-eq, take-at, drop-append-add, drop-drop, take-suc, drop-cons, length-take-le, set-at}
+use lib.IntN.{ℤ, pos}
+use Rattle.lifting.specs.Wrap.{low32}
+use Rattle.picture.specs.Planes.{table}
+use Rattle.picture.proofs.Table.{length-table}
+use Rattle.plane_file.specs.Words.{word, words, numbers}
+
+-- ---- four bytes are stored
+
+two : (i : ℕ) → i + 2 ≡ suc (suc i)
+two i = omega arith
+
+three : (i : ℕ) → i + 3 ≡ suc (suc (suc i))
+three i = omega arith
+
+stored : (l : List ℕ) (i a b c d : ℕ) → i + 4 ≤ length l
+    → set (set (set (set l i a) (i + 1) b) (i + 2) c) (i + 3) d ≡ take i l ++ (a ∷ b ∷ c ∷ d ∷ []) ++ drop (i + 4) l
+stored l i a b c d h = rw (add-one i, two i, three i) (sets-eq (a ∷ b ∷ c ∷ d ∷ []) l i h)
+
+pub word-stored : (l : List ℕ) (i x : ℕ) {a b c d : ℕ} → i + 4 ≤ length l
+    → a ≡ x % 256 → b ≡ x / 256 % 256 → c ≡ x / 65536 % 256 → d ≡ x / 16777216 % 256
+    → set (set (set (set l i a) (i + 1) b) (i + 2) c) (i + 3) d ≡ take i l ++ word x ++ drop (i + 4) l
+word-stored l i x h e f g k = rw (e, f, g, k) (stored l i _ _ _ _ h)
+
+-- ---- one part after another
+
+drop-past : (xs ys : List ℕ) (n k : ℕ) → length xs ≡ n → drop (n + k) (xs ++ ys) ≡ drop k ys
+drop-past xs ys n k e = rw (← e) (drop-append-add xs ys k)
+
+pub then-more : (done vs b : List ℕ) (at k : ℕ) {b1 b2 : List ℕ} → length done ≡ at
+    → b1 ≡ done ++ drop at b → b2 ≡ take at b1 ++ vs ++ drop (at + k) b1 → b2 ≡ (done ++ vs) ++ drop (at + k) b
+then-more done vs b at k e p q =
+    q ∙ rw (p, take-at done (drop at b) at e, drop-past done (drop at b) at k e, drop-drop k at b)
+
+pub then-at : (done vs b : List ℕ) (at k next : ℕ) {b1 b2 : List ℕ} → length done ≡ at → at + k ≡ next
+    → b1 ≡ done ++ drop at b → b2 ≡ take at b1 ++ vs ++ drop (at + k) b1 → b2 ≡ (done ++ vs) ++ drop next b
+then-at done vs b at k next e n p q = then-more done vs b at k e p q ∙ ap (λ (m : ℕ). (done ++ vs) ++ drop m b) n
+
+-- ---- numbers
+
+pub numbers-append : (xs ys : List ℤ) → numbers (xs ++ ys) ≡ numbers xs ++ numbers ys
+unfolding numbers words
+numbers-append [] ys = refl
+numbers-append (x ∷ xs) ys = ap (λ (l : List ℕ). word (low32 x) ++ l) (numbers-append xs ys)
+
+pub numbers-length : (xs : List ℤ) → length (numbers xs) ≡ 4 * length xs
+unfolding numbers words
+numbers-length [] = refl
+numbers-length (x ∷ xs) = omega (arith, numbers-length xs)
+
+numbers-one : (x : ℤ) → numbers (x ∷ []) ≡ word (low32 x)
+unfolding numbers words
+numbers-one x = refl
+
+pub numbers-more : (xs : List ℤ) (i : ℕ) → i < length xs → numbers (take (i + 1) xs) ≡ numbers (take i xs) ++ word (low32 (getD xs i (pos 0)))
+numbers-more xs i h = rw (add-one i, take-suc xs i (pos 0) h, numbers-append) (ap (λ (l : List ℕ). numbers (take i xs) ++ l) (numbers-one _))
+
+-- a plane of which i numbers are written at `at`
+abbrev pub Written : List ℤ → List ℕ → ℕ → List ℕ → ℕ → Type 0
+Written plane b at b1 i = b1 ≡ (take at b ++ numbers (take i plane)) ++ drop (at + 4 * i) b
+
+pub none-written : (plane : List ℤ) (b : List ℕ) (at : ℕ) → Written plane b at b 0
+unfolding numbers words
+none-written plane b at = sym (ap (λ (l : List ℕ). l ++ drop (at + 0) b) (append-nil (take at b)) ∙ rw (zero-more at) (take-append-drop at b))
+  where
+    zero-more : (n : ℕ) → n + 0 ≡ n
+    zero-more n = omega arith
+
+pub one-written : (plane : List ℤ) (b : List ℕ) (at i x : ℕ) {b1 b2 : List ℕ} → i < length plane → at + 4 * length plane ≤ length b
+    → Written plane b at b1 i → x ≡ low32 (getD plane i (pos 0))
+    → b2 ≡ take (at + 4 * i) b1 ++ word x ++ drop (at + 4 * i + 4) b1 → Written plane b at b2 (i + 1)
+one-written plane b at i x h fits w e q =
+    rw (next, numbers-more plane i h, ← e, ← append-assoc) (then-more (take at b ++ numbers (take i plane)) (word x) b (at + 4 * i) 4 long w q)
+  where
+    next : at + 4 * (i + 1) ≡ at + 4 * i + 4
+    next = omega arith
+
+    long : length (take at b ++ numbers (take i plane)) ≡ at + 4 * i
+    long = omega (arith, length-append (take at b) (numbers (take i plane)), numbers-length (take i plane), length-take-le at b (omega arith), length-take-le i plane (omega arith))
+
+pub all-written : (plane : List ℤ) (b : List ℕ) (at i : ℕ) {b1 : List ℕ} → i ≡ length plane → Written plane b at b1 i
+    → b1 ≡ take at b ++ numbers plane ++ drop (at + 4 * length plane) b
+all-written plane b at i e w = w ∙ rw (e, take-whole plane)
+  where
+    take-whole : (l : List ℤ) → take (length l) l ≡ l
+    take-whole [] = refl
+    take-whole (x ∷ l) = ap (λ (k : List ℤ). x ∷ k) (take-whole l)
+
+-- ---- tables
+
+pub table-more : (n : ℕ) (f : ℕ → ℤ) → table (suc n) f ≡ table n f ++ (f n ∷ [])
+unfolding table
+table-more zero f = refl
+table-more (suc n) f = ap (λ (l : List ℤ). f zero ∷ l) (table-more n (λ i. f (suc i)))
+
+pub none-read : (f : ℕ → ℤ) (p : List ℤ) → p ≡ table 0 f ++ drop 0 p
+unfolding table
+none-read f p = refl
+
+pub one-read : (f : ℕ → ℤ) (p p1 : List ℤ) (i : ℕ) {y : ℤ} → i < length p → p1 ≡ table i f ++ drop i p → y ≡ f i
+    → set p1 i y ≡ table (i + 1) f ++ drop (i + 1) p
+one-read f p p1 i {y} h e q =
+    rw (e, q, drop-cons p i (pos 0) h, set-at (table i f) (getD p i (pos 0)) (drop (suc i) p) (f i) i (length-table i f), add-one i, table-more i f)
+    (sym (append-assoc (table i f) (f i ∷ []) (drop (suc i) p)))
+
+pub all-read : (f : ℕ → ℤ) (p p1 : List ℤ) (i : ℕ) → i ≡ length p → p1 ≡ table i f ++ drop i p → p1 ≡ table (length p) f
+all-read f p p1 i e q = q ∙ rw (e, drop-whole p) (append-nil (table (length p) f))
+  where
+    drop-whole : (l : List ℤ) → drop (length l) l ≡ []
+    drop-whole [] = refl
+    drop-whole (x ∷ l) = drop-whole l

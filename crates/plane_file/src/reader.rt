@@ -1,0 +1,56 @@
+// A reader of words: the bytes of a file, and the place of the next word.
+ghost use mathlib.Core.Path.{_≡_};
+ghost use Prim.Native.Nat.{_+_, _≤_};
+ghost use lib.ListN.{length};
+ghost use Rattle.plane_file.specs.Words.{wordAt};
+ghost use Rattle.plane_file.specs.Header.{wordsOf};
+use crate::header::Words;
+use crate::word::word_at;
+
+pub struct WordReader<'a> {
+    pub bytes: &'a [u8],
+    pub at: usize,
+}
+
+impl<'a> WordReader<'a> {
+    // The word at the reader's place.
+    pub fn word(self) -> u32
+        requires { ⌜ self .at + 4 ≤ length (now (self .bytes)) ⌝ }
+        ensures { λ x. ⌜ x ≡ wordAt (now (self .entry .bytes)) (self .entry .at) ⌝ }
+    {
+        word_at(self.bytes, self.at)
+    }
+}
+
+// The eight words of a header, one after another.
+pub fn read_words(bytes: &[u8]) -> Words
+    requires { ⌜ 32 ≤ length (now bytes) ⌝ }
+    ensures { λ r. ⌜ r ≡ wordsOf (now (bytes .entry)) ⌝ }
+{
+    let mut r = WordReader { bytes, at: 0 };
+    let mode = r.word();
+    r.at += 4;
+    let width = r.word();
+    r.at += 4;
+    let height = r.word();
+    r.at += 4;
+    let dc = r.word();
+    r.at += 4;
+    let low = r.word();
+    r.at += 4;
+    let high = r.word();
+    r.at += 4;
+    let total = r.word();
+    r.at += 4;
+    let last = r.word();
+    Words {
+        mode,
+        width,
+        height,
+        dc,
+        low,
+        high,
+        total,
+        last,
+    }
+}
