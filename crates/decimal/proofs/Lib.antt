@@ -1,0 +1,9 @@
+pub mod Order
+pub mod Digits
+pub mod Sign
+pub mod Overlay
+pub mod Rows
+pub mod Progress
+pub mod Room
+pub mod Length
+pub mod Values

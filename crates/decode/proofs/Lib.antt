@@ -1,0 +1,4 @@
+pub mod Decide
+pub mod Front
+pub mod Lines
+pub mod Pictures
