@@ -1,0 +1,220 @@
+//! What the tests share: shapes, lent memory with guard cells, and sets of faulty arguments.
+#![allow(dead_code)] // Each test file is a crate of its own and uses a part of this.
+
+use reference::random::{Random, Values};
+use std::fmt::Debug;
+
+/// Shapes in macroblocks: small, one wide, one high, wide, tall, and at the limits 525 and 413.
+pub const SHAPES: [(u32, u32); 17] = [
+    (1, 1),
+    (1, 2),
+    (2, 1),
+    (2, 2),
+    (3, 2),
+    (2, 3),
+    (3, 3),
+    (1, 7),
+    (7, 1),
+    (5, 4),
+    (13, 11),
+    (40, 2),
+    (2, 40),
+    (33, 1),
+    (1, 33),
+    (525, 1),
+    (1, 413),
+];
+
+pub fn size(width: u32, height: u32) -> lapped::Size {
+    lapped::Size { width, height }
+}
+
+/// The same size for the reference.
+pub fn reference_size(size: lapped::Size) -> reference::Size {
+    reference::Size::new(size.width, size.height)
+}
+
+/// An answer of the library in the form of the reference's: the number of 01 where it refuses.
+pub fn number<T>(answer: Result<T, lapped::Refusal>) -> Result<T, u32> {
+    answer.map_err(lapped::Refusal::number)
+}
+
+const MARGIN: usize = 64;
+
+/// Memory lent to a call, with cells on both sides that the call must leave alone.
+pub struct Lent<T> {
+    cells: Vec<T>,
+    before: Vec<T>,
+}
+
+impl<T: Copy + PartialEq + Debug> Lent<T> {
+    fn with_margins(margins: [Vec<T>; 2], contents: &[T]) -> Self {
+        let [left, right] = margins;
+        let cells = [&left[..], contents, &right[..]].concat();
+        Lent { before: cells.clone(), cells }
+    }
+
+    pub fn slice(&self) -> &[T] {
+        &self.cells[MARGIN..self.cells.len() - MARGIN]
+    }
+
+    pub fn slice_mut(&mut self) -> &mut [T] {
+        let end = self.cells.len() - MARGIN;
+        &mut self.cells[MARGIN..end]
+    }
+
+    /// Nothing was written, neither what was lent nor around it.
+    pub fn assert_unchanged(&self, what: &str) {
+        // Not assert_eq!, which would print the whole memory.
+        if let Some(i) = (0..self.cells.len()).find(|&i| self.cells[i] != self.before[i]) {
+            panic!("{what}: the call wrote cell {} of what was lent", i as isize - MARGIN as isize);
+        }
+    }
+
+    /// What was lent holds `expected` now, and nothing around it was written.
+    pub fn assert_holds(&self, expected: &[T], what: &str) {
+        assert_same(self.slice(), expected, what);
+        let end = self.cells.len() - MARGIN;
+        for around in [0..MARGIN, end..self.cells.len()] {
+            assert_eq!(self.cells[around.clone()], self.before[around], "{what}: wrote outside");
+        }
+    }
+}
+
+/// Equality that names the first place where it fails, and not both lists whole.
+pub fn assert_same<T: Copy + PartialEq + Debug>(found: &[T], expected: &[T], what: &str) {
+    assert_eq!(found.len(), expected.len(), "{what}: length");
+    if let Some(i) = (0..found.len()).find(|&i| found[i] != expected[i]) {
+        panic!("{what}: place {i} has {:?} in place of {:?}", found[i], expected[i]);
+    }
+}
+
+pub fn lend_numbers(random: &mut Random, contents: &[i32]) -> Lent<i32> {
+    let margins = [0, 1].map(|_| random.numbers(MARGIN, Values::Wild));
+    Lent::with_margins(margins, contents)
+}
+
+pub fn lend_bytes(random: &mut Random, contents: &[u8]) -> Lent<u8> {
+    let margins = [0, 1].map(|_| random.bytes(MARGIN));
+    Lent::with_margins(margins, contents)
+}
+
+/// Memory of `count` numbers with contents that no call should leave by chance.
+pub fn lend_filled(random: &mut Random, count: usize) -> Lent<i32> {
+    let contents = random.numbers(count, Values::Wild);
+    lend_numbers(random, &contents)
+}
+
+pub fn lend_filled_bytes(random: &mut Random, count: usize) -> Lent<u8> {
+    let contents = random.bytes(count);
+    lend_bytes(random, &contents)
+}
+
+/// The DC, low-pass and high-pass planes of n macroblocks.
+pub fn random_planes(random: &mut Random, n: usize, values: Values) -> [Vec<i32>; 3] {
+    [n, 15 * n, 240 * n].map(|count| random.numbers(count, values))
+}
+
+pub fn lend_planes(random: &mut Random, planes: &[Vec<i32>; 3]) -> [Lent<i32>; 3] {
+    [0, 1, 2].map(|i| lend_numbers(random, &planes[i]))
+}
+
+/// The arguments of a call but for the contents of what is lent.
+#[derive(Clone, Copy, Debug)]
+pub struct Arguments {
+    pub mode: u32,
+    pub size: lapped::Size,
+    /// The lengths of what the numbers 4, 5, 6, 7, 8 and 12 are about, in this order.
+    lengths: [usize; 6],
+}
+
+const LENGTH_NUMBERS: [u32; 6] = [4, 5, 6, 7, 8, 12];
+
+impl Arguments {
+    pub fn sound(mode: u32, size: lapped::Size) -> Self {
+        let n = size.width as usize * size.height as usize;
+        let lengths = [n, 15 * n, 240 * n, 256 * n, 16 * n, 32 + 1024 * n];
+        Arguments { mode, size, lengths }
+    }
+
+    /// The length of what this number of 01 is about.
+    pub fn length(&self, number: u32) -> usize {
+        self.lengths[LENGTH_NUMBERS.iter().position(|&other| other == number).unwrap()]
+    }
+
+    pub fn set_length(&mut self, number: u32, length: usize) {
+        self.lengths[LENGTH_NUMBERS.iter().position(|&other| other == number).unwrap()] = length;
+    }
+
+    /// Every way to make this number's check fail, the other arguments left as they are.
+    pub fn broken(self, number: u32) -> Vec<Arguments> {
+        let with = |change: &dyn Fn(&mut Arguments)| {
+            let mut arguments = self;
+            change(&mut arguments);
+            arguments
+        };
+        match number {
+            1 => BAD_MODES.map(|mode| with(&|a| a.mode = mode)).into(),
+            2 => bad_sides(525).map(|width| with(&|a| a.size.width = width)).into(),
+            3 => bad_sides(413).map(|height| with(&|a| a.size.height = height)).into(),
+            _ => bad_lengths(self.length(number))
+                .into_iter()
+                .map(|length| with(&|a| a.set_length(number, length)))
+                .collect(),
+        }
+    }
+}
+
+pub const BAD_MODES: [u32; 7] = [3, 4, 255, 256, 1 << 16, 0x8000_0000, u32::MAX];
+
+pub fn bad_sides(limit: u32) -> [u32; 7] {
+    [0, limit + 1, limit + 2, 1 << 16, 0x8000_0000, u32::MAX - 1, u32::MAX]
+}
+
+/// Lengths other than `right`: by one, none at all, or a wrong multiple.
+fn bad_lengths(right: usize) -> Vec<usize> {
+    let mut lengths = vec![right - 1, right + 1, 0, right / 15, right / 16];
+    lengths.extend([2, 15, 16].map(|factor| factor * right));
+    lengths.retain(|&length| length != right);
+    lengths
+}
+
+pub fn any<T: Copy>(random: &mut Random, choices: &[T]) -> T {
+    choices[random.below(choices.len())]
+}
+
+/// Every set of faults of an operation whose checks run in `order`, with the number that 01 gives:
+/// the first that fails.
+pub fn faults(order: &[u32]) -> impl Iterator<Item = (Vec<u32>, u32)> + '_ {
+    (1..1usize << order.len()).map(move |set| {
+        let numbers: Vec<u32> =
+            (0..order.len()).filter(|i| set >> i & 1 == 1).map(|i| order[i]).collect();
+        let first = numbers[0];
+        (numbers, first)
+    })
+}
+
+/// Sound arguments of random modes and small shapes, broken by every set of faults: a fault alone in
+/// every way, several together in random ones. With each comes the number that 01 gives.
+pub fn refused_arguments(
+    order: &'static [u32],
+    random: &mut Random,
+) -> Vec<(Arguments, u32, String)> {
+    let mut refused = Vec::new();
+    for (numbers, first) in faults(order) {
+        for _ in 0..4 {
+            let shape = size(1 + random.below(3) as u32, 1 + random.below(3) as u32);
+            let mut broken = vec![Arguments::sound(random.below(3) as u32, shape)];
+            for &number in &numbers {
+                broken = any(random, &broken).broken(number);
+            }
+            if numbers.len() > 1 {
+                broken = vec![any(random, &broken)];
+            }
+            for arguments in broken {
+                refused.push((arguments, first, format!("faults {numbers:?} in {arguments:?}")));
+            }
+        }
+    }
+    refused
+}

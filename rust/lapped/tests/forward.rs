@@ -1,0 +1,133 @@
+//! The forward call against the reference, and round trips both ways.
+#![cfg(feature = "forward")]
+
+mod common;
+use common::*;
+use reference::random::{Random, Values};
+
+/// Calls the library on lent memory, and checks that it only wrote the planes.
+fn forward(mode: u32, size: lapped::Size, samples: &[i32], random: &mut Random) -> [Vec<i32>; 3] {
+    let n = samples.len() / 256;
+    let samples = lend_numbers(random, samples);
+    let [mut dc, mut low, mut high] = [n, 15 * n, 240 * n].map(|count| lend_filled(random, count));
+    let answer = lapped::forward(
+        mode,
+        size,
+        samples.slice(),
+        dc.slice_mut(),
+        low.slice_mut(),
+        high.slice_mut(),
+    );
+    assert_eq!(number(answer), Ok(()), "mode {mode}, {size:?}");
+    samples.assert_unchanged("samples");
+    [dc, low, high].map(|plane| {
+        let result = plane.slice().to_vec();
+        plane.assert_holds(&result, "a plane");
+        result
+    })
+}
+
+fn inverse(mode: u32, size: lapped::Size, planes: &[Vec<i32>; 3]) -> Vec<i32> {
+    let [dc, low, high] = planes;
+    let mut samples = vec![0; 256 * dc.len()];
+    lapped::inverse(mode, size, dc, low, high, &mut samples).unwrap();
+    samples
+}
+
+fn assert_planes(found: &[Vec<i32>; 3], expected: &[Vec<i32>; 3], what: &str) {
+    for (i, name) in ["DC", "low-pass", "high-pass"].into_iter().enumerate() {
+        assert_same(&found[i], &expected[i], &format!("{what}, {name} plane"));
+    }
+}
+
+fn assert_agrees(mode: u32, size: lapped::Size, samples: &[i32], random: &mut Random) {
+    let n = samples.len() / 256;
+    let mut expected = [vec![0; n], vec![0; 15 * n], vec![0; 240 * n]];
+    let [dc, low, high] = &mut expected;
+    reference::forward(mode, reference_size(size), samples, dc, low, high).unwrap();
+    let planes = forward(mode, size, samples, random);
+    assert_planes(&planes, &expected, &format!("mode {mode}, {size:?}"));
+}
+
+#[test]
+fn random_pictures_and_round_trips() {
+    let mut random = Random::new(21);
+    for (width, height) in SHAPES {
+        let shape = size(width, height);
+        let n = (width * height) as usize;
+        for mode in 0..=2 {
+            for values in Values::ALL {
+                let what = format!("mode {mode}, {shape:?}, {values:?}");
+                let samples = random.numbers(256 * n, values);
+                assert_agrees(mode, shape, &samples, &mut random);
+
+                let planes = forward(mode, shape, &samples, &mut random);
+                let back = inverse(mode, shape, &planes);
+                assert_same(&back, &samples, &format!("{what}, inverse of forward"));
+
+                let planes = random_planes(&mut random, n, values);
+                let samples = inverse(mode, shape, &planes);
+                let back = forward(mode, shape, &samples, &mut random);
+                assert_planes(&back, &planes, &format!("{what}, forward of inverse"));
+            }
+        }
+    }
+}
+
+#[test]
+fn largest_picture() {
+    let mut random = Random::new(22);
+    let samples = random.numbers(256 * 525 * 413, Values::Wild);
+    assert_agrees(2, size(525, 413), &samples, &mut random);
+}
+
+fn assert_refuses(arguments: Arguments, expected: u32, what: &str, random: &mut Random) {
+    let Arguments { mode, size, .. } = arguments;
+    let [samples, mut dc, mut low, mut high] =
+        [7, 4, 5, 6].map(|number| lend_filled(random, arguments.length(number)));
+    let answer = lapped::forward(
+        mode,
+        size,
+        samples.slice(),
+        dc.slice_mut(),
+        low.slice_mut(),
+        high.slice_mut(),
+    );
+    assert_eq!(number(answer), Err(expected), "{what}");
+    for lent in [&samples, &dc, &low, &high] {
+        lent.assert_unchanged(what);
+    }
+    let answer = reference::forward(
+        mode,
+        reference_size(size),
+        samples.slice(),
+        dc.slice_mut(),
+        low.slice_mut(),
+        high.slice_mut(),
+    );
+    assert_eq!(answer, Err(expected), "the reference: {what}");
+}
+
+#[test]
+fn every_set_of_faults() {
+    let mut random = Random::new(23);
+    for (arguments, expected, what) in refused_arguments(&[1, 2, 3, 7, 4, 5, 6], &mut random) {
+        assert_refuses(arguments, expected, &what, &mut random);
+    }
+}
+
+#[test]
+fn limits_with_matching_lengths() {
+    let mut random = Random::new(24);
+    for (mode, shape, expected) in [
+        (0, size(0, 1), 2),
+        (1, size(526, 1), 2),
+        (2, size(1, 0), 3),
+        (0, size(1, 414), 3),
+        (3, size(0, 1), 1),
+        (3, size(1, 1), 1),
+    ] {
+        let arguments = Arguments::sound(mode, shape);
+        assert_refuses(arguments, expected, &format!("{arguments:?}"), &mut random);
+    }
+}

@@ -1,0 +1,134 @@
+//! The inverse call against the reference and the values of 01.
+
+mod common;
+use common::*;
+use reference::random::{Random, Values};
+
+/// Calls the library on lent memory, and checks that it only wrote the samples.
+fn inverse(mode: u32, size: lapped::Size, planes: &[Vec<i32>; 3], random: &mut Random) -> Vec<i32> {
+    let [dc, low, high] = lend_planes(random, planes);
+    let mut samples = lend_filled(random, 256 * planes[0].len());
+    let answer =
+        lapped::inverse(mode, size, dc.slice(), low.slice(), high.slice(), samples.slice_mut());
+    assert_eq!(number(answer), Ok(()), "mode {mode}, {size:?}");
+    for plane in [dc, low, high] {
+        plane.assert_unchanged("a plane");
+    }
+    let result = samples.slice().to_vec();
+    samples.assert_holds(&result, "samples");
+    result
+}
+
+fn assert_agrees(mode: u32, size: lapped::Size, planes: &[Vec<i32>; 3], random: &mut Random) {
+    let [dc, low, high] = planes;
+    let mut expected = vec![0; 256 * dc.len()];
+    reference::inverse(mode, reference_size(size), dc, low, high, &mut expected).unwrap();
+    let samples = inverse(mode, size, planes, random);
+    assert_same(&samples, &expected, &format!("mode {mode}, {size:?}"));
+}
+
+#[test]
+fn dc_one_gives_nine_ones() {
+    let planes = [vec![1], vec![0; 15], vec![0; 240]];
+    let samples = inverse(0, size(1, 1), &planes, &mut Random::new(1));
+    let mut expected = [[0; 16]; 16];
+    for (block_row, block_column) in [(0, 1), (1, 0), (1, 1)] {
+        for (row, column) in [(0, 1), (1, 0), (1, 1)] {
+            expected[4 * block_row + row][4 * block_column + column] = 1;
+        }
+    }
+    assert_same(&samples, &expected.concat(), "samples");
+}
+
+#[test]
+fn dc_64_gives_fours() {
+    let planes = [vec![64], vec![0; 15], vec![0; 240]];
+    assert_same(&inverse(0, size(1, 1), &planes, &mut Random::new(1)), &[4; 256], "samples");
+}
+
+#[test]
+fn random_pictures() {
+    let mut random = Random::new(3);
+    for (width, height) in SHAPES {
+        for mode in 0..=2 {
+            for values in Values::ALL {
+                let n = (width * height) as usize;
+                let planes = random_planes(&mut random, n, values);
+                assert_agrees(mode, size(width, height), &planes, &mut random);
+            }
+        }
+    }
+}
+
+/// Small numbers on a few places: what is lost among random numbers everywhere shows here.
+#[test]
+fn sparse_pictures() {
+    let mut random = Random::new(4);
+    for (width, height) in [(1, 1), (1, 3), (3, 1), (3, 3)] {
+        let n = (width * height) as usize;
+        for mode in 0..=2 {
+            for _ in 0..100 {
+                let mut planes = [vec![0; n], vec![0; 15 * n], vec![0; 240 * n]];
+                for plane in &mut planes {
+                    let place = random.below(plane.len());
+                    plane[place] = random.number(Values::Small);
+                }
+                assert_agrees(mode, size(width, height), &planes, &mut random);
+            }
+        }
+    }
+}
+
+#[test]
+fn largest_picture() {
+    let mut random = Random::new(5);
+    let planes = random_planes(&mut random, 525 * 413, Values::Wild);
+    assert_agrees(2, size(525, 413), &planes, &mut random);
+}
+
+fn assert_refuses(arguments: Arguments, expected: u32, what: &str, random: &mut Random) {
+    let Arguments { mode, size, .. } = arguments;
+    let [dc, low, high, mut samples] =
+        [4, 5, 6, 7].map(|number| lend_filled(random, arguments.length(number)));
+    let answer =
+        lapped::inverse(mode, size, dc.slice(), low.slice(), high.slice(), samples.slice_mut());
+    assert_eq!(number(answer), Err(expected), "{what}");
+    for lent in [&dc, &low, &high, &samples] {
+        lent.assert_unchanged(what);
+    }
+    let answer = reference::inverse(
+        mode,
+        reference_size(size),
+        dc.slice(),
+        low.slice(),
+        high.slice(),
+        samples.slice_mut(),
+    );
+    assert_eq!(answer, Err(expected), "the reference: {what}");
+}
+
+#[test]
+fn every_set_of_faults() {
+    let mut random = Random::new(6);
+    for (arguments, expected, what) in refused_arguments(&[1, 2, 3, 4, 5, 6, 7], &mut random) {
+        assert_refuses(arguments, expected, &what, &mut random);
+    }
+}
+
+/// Just outside the limits, with all lengths right for that size.
+#[test]
+fn limits_with_matching_lengths() {
+    let mut random = Random::new(7);
+    for (mode, shape, expected) in [
+        (0, size(0, 1), 2),
+        (1, size(526, 1), 2),
+        (2, size(1, 0), 3),
+        (0, size(1, 414), 3),
+        (2, size(526, 414), 2),
+        (3, size(0, 1), 1),
+        (3, size(1, 1), 1),
+    ] {
+        let arguments = Arguments::sound(mode, shape);
+        assert_refuses(arguments, expected, &format!("{arguments:?}"), &mut random);
+    }
+}

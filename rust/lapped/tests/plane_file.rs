@@ -1,0 +1,401 @@
+//! Header, load and save against the reference and the layout of 01.
+#![cfg(feature = "plane_file")]
+
+mod common;
+use common::*;
+use lapped::ffi;
+use reference::random::{Random, Values};
+
+const SOUND_SHAPES: [(u32, u32); 8] =
+    [(1, 1), (1, 2), (2, 1), (2, 3), (7, 1), (1, 413), (525, 1), (11, 13)];
+
+/// The layout of 01, written out byte by byte.
+fn file(mode: u32, size: lapped::Size, planes: &[Vec<i32>; 3]) -> Vec<u8> {
+    let n = size.width * size.height;
+    let words = [mode, size.width, size.height, 32, 32 + 4 * n, 32 + 64 * n, 32 + 1024 * n, 0];
+    let numbers = planes.iter().flatten().map(|&number| number as u32);
+    words.into_iter().chain(numbers).flat_map(u32::to_le_bytes).collect()
+}
+
+fn set_word(bytes: &mut [u8], index: usize, word: u32) {
+    bytes[4 * index..4 * index + 4].copy_from_slice(&word.to_le_bytes());
+}
+
+fn word(bytes: &[u8], index: usize) -> u32 {
+    u32::from_le_bytes(bytes[4 * index..4 * index + 4].try_into().unwrap())
+}
+
+/// The C call itself, for the figures beside the number, which a refusal leaves zero.
+fn read_header(bytes: &[u8]) -> ffi::Header {
+    unsafe { ffi::lapped_read_header(bytes.as_ptr(), bytes.len()) }
+}
+
+fn load(bytes: &[u8], planes: &mut [Lent<i32>; 3]) -> ffi::Header {
+    let [dc, low, high] = planes.each_mut().map(|plane| plane.slice_mut());
+    unsafe {
+        ffi::lapped_load(
+            bytes.as_ptr(),
+            bytes.len(),
+            dc.as_mut_ptr(),
+            dc.len(),
+            low.as_mut_ptr(),
+            low.len(),
+            high.as_mut_ptr(),
+            high.len(),
+        )
+    }
+}
+
+fn refused(number: u32) -> ffi::Header {
+    ffi::Header { number, mode: 0, size: size(0, 0) }
+}
+
+/// What the reference says of a header, in the form of the C interface.
+fn reference_header(answer: Result<reference::plane_file::Header, u32>) -> ffi::Header {
+    match answer {
+        Ok(header) => ffi::Header {
+            number: 0,
+            mode: header.mode,
+            size: size(header.size.width, header.size.height),
+        },
+        Err(number) => refused(number),
+    }
+}
+
+/// Header and load refuse this file with `expected` and change nothing, whatever planes are lent.
+fn assert_file_refused(bytes: &[u8], expected: u32, what: &str, random: &mut Random) {
+    let bytes = lend_bytes(random, bytes);
+    assert_eq!(read_header(bytes.slice()), refused(expected), "header: {what}");
+    // Planes right for the file's own size where that is small, and now and then wrong ones.
+    let n = match bytes.slice().len() {
+        0..=31 => 1,
+        _ => (word(bytes.slice(), 1) as usize).wrapping_mul(word(bytes.slice(), 2) as usize),
+    };
+    let n = if n > 1000 || random.below(4) == 0 { random.below(5) } else { n };
+    let mut planes = [n, 15 * n, 240 * n].map(|count| lend_filled(random, count));
+    assert_eq!(load(bytes.slice(), &mut planes), refused(expected), "load: {what}");
+    for plane in &planes {
+        plane.assert_unchanged(what);
+    }
+    bytes.assert_unchanged(what);
+    let answer = reference::plane_file::read_header(bytes.slice());
+    assert_eq!(answer.err(), Some(expected), "the reference: {what}");
+}
+
+fn assert_file_sound(
+    bytes: &[u8],
+    header: ffi::Header,
+    expected: &[Vec<i32>; 3],
+    random: &mut Random,
+) {
+    let what = format!("{header:?}");
+    let bytes = lend_bytes(random, bytes);
+    assert_eq!(read_header(bytes.slice()), header);
+    let mut planes = expected.each_ref().map(|plane| lend_filled(random, plane.len()));
+    assert_eq!(load(bytes.slice(), &mut planes), header);
+    for (plane, expected) in planes.iter().zip(expected) {
+        plane.assert_holds(expected, &what);
+    }
+    bytes.assert_unchanged(&what);
+}
+
+fn save(mode: u32, size: lapped::Size, planes: &[Vec<i32>; 3], random: &mut Random) -> Vec<u8> {
+    let [dc, low, high] = lend_planes(random, planes);
+    let mut bytes = lend_filled_bytes(random, 32 + 1024 * planes[0].len());
+    let answer = lapped::save(mode, size, dc.slice(), low.slice(), high.slice(), bytes.slice_mut());
+    assert_eq!(number(answer), Ok(()), "mode {mode}, {size:?}");
+    for plane in [dc, low, high] {
+        plane.assert_unchanged("a plane");
+    }
+    let result = bytes.slice().to_vec();
+    bytes.assert_holds(&result, "file");
+    result
+}
+
+#[test]
+fn random_files() {
+    let mut random = Random::new(41);
+    for (width, height) in SOUND_SHAPES {
+        for mode in 0..=2 {
+            for values in Values::ALL {
+                let shape = size(width, height);
+                let planes = random_planes(&mut random, (width * height) as usize, values);
+                let bytes = file(mode, shape, &planes);
+                let header = ffi::Header { number: 0, mode, size: shape };
+                assert_file_sound(&bytes, header, &planes, &mut random);
+                let saved = save(mode, shape, &planes, &mut random);
+                assert_same(&saved, &bytes, &format!("file of mode {mode}, {shape:?}"));
+
+                // The reference and the layout above were written apart.
+                let mut by_reference = vec![0; bytes.len()];
+                let [dc, low, high] = &planes;
+                let shape = reference_size(shape);
+                reference::plane_file::save(mode, shape, dc, low, high, &mut by_reference).unwrap();
+                assert_same(&by_reference, &bytes, "the reference's file");
+            }
+        }
+    }
+}
+
+#[test]
+fn safe_calls_give_what_the_c_calls_give() {
+    let mut random = Random::new(42);
+    let planes = random_planes(&mut random, 6, Values::Wild);
+    let mut bytes = file(1, size(2, 3), &planes);
+    let header = lapped::Header { mode: 1, size: size(2, 3) };
+    assert_eq!(lapped::read_header(&bytes), Ok(header));
+    let [mut dc, mut low, mut high] = planes.each_ref().map(|plane| vec![0; plane.len()]);
+    assert_eq!(lapped::load(&bytes, &mut dc, &mut low, &mut high), Ok(header));
+    assert_eq!([dc, low, high], planes);
+    set_word(&mut bytes, 7, 1);
+    assert_eq!(number(lapped::read_header(&bytes)), Err(10));
+    assert_eq!(number(lapped::load(&bytes, &mut [], &mut [], &mut [])), Err(10));
+}
+
+#[test]
+fn largest_file() {
+    let mut random = Random::new(43);
+    let shape = size(525, 413);
+    let planes = random_planes(&mut random, 525 * 413, Values::Wild);
+    let bytes = file(2, shape, &planes);
+    let header = ffi::Header { number: 0, mode: 2, size: shape };
+    assert_file_sound(&bytes, header, &planes, &mut random);
+    assert_same(&save(2, shape, &planes, &mut random), &bytes, "largest file");
+    assert_file_refused(&bytes[..bytes.len() - 1], 12, "largest file cut by one byte", &mut random);
+}
+
+#[test]
+fn every_length_near_the_right_one() {
+    let mut random = Random::new(44);
+    for (width, height) in [(1, 1), (2, 1), (3, 4)] {
+        let shape = size(width, height);
+        let planes = random_planes(&mut random, (width * height) as usize, Values::Wild);
+        let sound = file(1, shape, &planes);
+        let longer = [&sound[..], &random.bytes(80)].concat();
+        let near = sound.len() - 80..sound.len() + 80;
+        for length in (0..80).chain(near) {
+            let what = format!("{length} bytes of {}", sound.len());
+            let bytes = &longer[..length];
+            if length == sound.len() {
+                let header = ffi::Header { number: 0, mode: 1, size: shape };
+                assert_file_sound(bytes, header, &planes, &mut random);
+            } else {
+                let expected = if length < 32 { 9 } else { 12 };
+                assert_file_refused(bytes, expected, &what, &mut random);
+            }
+        }
+    }
+}
+
+/// The values that a damaged word takes: each bit flipped, the neighbours, the ends of the range.
+fn damaged(old: u32, random: &mut Random) -> Vec<u32> {
+    let mut words: Vec<u32> = (0..32).map(|bit| old ^ 1 << bit).collect();
+    words.extend([old.wrapping_add(1), old.wrapping_sub(1), 0, 1, 0x7FFF_FFFF, 0x8000_0000]);
+    words.extend([u32::MAX, old.swap_bytes(), random.bits() as u32]);
+    words.retain(|&word| word != old);
+    words
+}
+
+#[test]
+fn each_header_word_damaged_in_turn() {
+    let mut random = Random::new(45);
+    for (mode, width, height) in [(0, 1, 1), (1, 3, 2), (2, 2, 5)] {
+        let shape = size(width, height);
+        let planes = random_planes(&mut random, (width * height) as usize, Values::Wild);
+        let sound = file(mode, shape, &planes);
+        for index in 0..8 {
+            for damage in damaged(word(&sound, index), &mut random) {
+                let mut bytes = sound.clone();
+                set_word(&mut bytes, index, damage);
+                let what = format!("word {index} is {damage}, mode {mode}, {shape:?}");
+                let expected = match index {
+                    0 if damage > 2 => 1,
+                    1 if !(1..=525).contains(&damage) => 2,
+                    2 if !(1..=413).contains(&damage) => 3,
+                    // Another mode is as good as the old one.
+                    0 => {
+                        let header = ffi::Header { number: 0, mode: damage, size: shape };
+                        assert_file_sound(&bytes, header, &planes, &mut random);
+                        continue;
+                    }
+                    7 => 10,
+                    // Another side has another n, and so other offsets.
+                    _ => 11,
+                };
+                assert_file_refused(&bytes, expected, &what, &mut random);
+            }
+        }
+    }
+}
+
+/// Sides whose product leaves 32 bits, in files whose offsets fit the product that is left.
+#[test]
+fn huge_sides() {
+    let mut random = Random::new(46);
+    let huge = [526, 1 << 16, 1 << 31, u32::MAX - 1, u32::MAX];
+    for side in huge {
+        for (width, height, expected) in
+            [(side, 1, 2), (1, side, 3), (side, side, 2), (side, 0, 2), (525, side, 3)]
+        {
+            let n = width.wrapping_mul(height);
+            for total in [32, 1056] {
+                let mut bytes = random.bytes(total);
+                let [low, high, end] =
+                    [4, 64, 1024].map(|step: u32| n.wrapping_mul(step).wrapping_add(32));
+                for (index, word) in [2, width, height, 32, low, high, end, 0].iter().enumerate() {
+                    set_word(&mut bytes, index, *word);
+                }
+                let what = format!("{width} x {height} in {total} bytes");
+                assert_file_refused(&bytes, expected, &what, &mut random);
+            }
+        }
+    }
+}
+
+/// Breaks a file so that this number's check fails.
+fn break_file(bytes: &mut Vec<u8>, number: u32, random: &mut Random) {
+    match number {
+        1 => set_word(bytes, 0, any(random, &BAD_MODES)),
+        2 => set_word(bytes, 1, any(random, &bad_sides(525))),
+        3 => set_word(bytes, 2, any(random, &bad_sides(413))),
+        10 => set_word(bytes, 7, 1 << random.below(32)),
+        11 => {
+            let index = 3 + random.below(4);
+            let old = word(bytes, index);
+            let damages = damaged(old, random);
+            set_word(bytes, index, any(random, &damages));
+        }
+        12 if random.below(2) == 0 => {
+            let more = 1 + random.below(100);
+            bytes.extend(random.bytes(more));
+        }
+        12 => bytes.truncate(32 + random.below(bytes.len() - 32)),
+        9 => bytes.truncate(random.below(32)),
+        _ => unreachable!("no check of a file has the number {number}"),
+    }
+}
+
+/// Load refuses this file into planes of these lengths, and changes nothing.
+fn assert_load_refused(
+    bytes: &[u8],
+    arguments: Arguments,
+    expected: u32,
+    what: &str,
+    random: &mut Random,
+) {
+    let bytes = lend_bytes(random, bytes);
+    let mut planes = [4, 5, 6].map(|number| lend_filled(random, arguments.length(number)));
+    assert_eq!(load(bytes.slice(), &mut planes), refused(expected), "{what}");
+    bytes.assert_unchanged(what);
+    for plane in &planes {
+        plane.assert_unchanged(what);
+    }
+    let [dc, low, high] = planes.each_mut().map(|plane| plane.slice_mut());
+    let answer = reference_header(reference::plane_file::load(bytes.slice(), dc, low, high));
+    assert_eq!(answer, refused(expected), "the reference: {what}");
+}
+
+#[test]
+fn every_set_of_faults_of_load() {
+    let mut random = Random::new(47);
+    for (numbers, first) in faults(&[9, 1, 2, 3, 10, 11, 12, 4, 5, 6]) {
+        let what = format!("faults {numbers:?}");
+        let shape = size(1 + random.below(3) as u32, 1 + random.below(3) as u32);
+        let mut arguments = Arguments::sound(random.below(3) as u32, shape);
+        let planes = random_planes(&mut random, arguments.length(4), Values::Wild);
+        let mut bytes = file(arguments.mode, shape, &planes);
+        // The file is cut last, since a word can only be damaged while it is there.
+        for number in [1, 2, 3, 10, 11, 12, 9] {
+            if numbers.contains(&number) {
+                break_file(&mut bytes, number, &mut random);
+            }
+        }
+        for number in [4, 5, 6] {
+            if numbers.contains(&number) {
+                arguments = any(&mut random, &arguments.broken(number));
+            }
+        }
+        // The header knows nothing of the planes.
+        let header = match first {
+            4..=6 => ffi::Header { number: 0, mode: arguments.mode, size: shape },
+            _ => refused(first),
+        };
+        assert_eq!(read_header(&bytes), header, "{what}");
+        assert_load_refused(&bytes, arguments, first, &what, &mut random);
+    }
+}
+
+#[test]
+fn load_into_planes_of_every_wrong_length() {
+    let mut random = Random::new(51);
+    for (width, height) in [(1, 1), (2, 3)] {
+        let sound = Arguments::sound(1, size(width, height));
+        let planes = random_planes(&mut random, sound.length(4), Values::Wild);
+        let bytes = file(sound.mode, sound.size, &planes);
+        for number in [4, 5, 6] {
+            for arguments in sound.broken(number) {
+                let what = format!("{arguments:?}");
+                assert_load_refused(&bytes, arguments, number, &what, &mut random);
+            }
+        }
+    }
+}
+
+#[test]
+fn every_set_of_faults_of_save() {
+    let mut random = Random::new(48);
+    for (arguments, expected, what) in refused_arguments(&[1, 2, 3, 4, 5, 6, 12], &mut random) {
+        let Arguments { mode, size, .. } = arguments;
+        let [dc, low, high] =
+            [4, 5, 6].map(|number| lend_filled(&mut random, arguments.length(number)));
+        let mut bytes = lend_filled_bytes(&mut random, arguments.length(12));
+        let answer =
+            lapped::save(mode, size, dc.slice(), low.slice(), high.slice(), bytes.slice_mut());
+        assert_eq!(number(answer), Err(expected), "{what}");
+        for plane in [&dc, &low, &high] {
+            plane.assert_unchanged(&what);
+        }
+        bytes.assert_unchanged(&what);
+        let answer = reference::plane_file::save(
+            mode,
+            reference_size(size),
+            dc.slice(),
+            low.slice(),
+            high.slice(),
+            bytes.slice_mut(),
+        );
+        assert_eq!(answer, Err(expected), "the reference: {what}");
+    }
+}
+
+/// Save refuses every length near the right one.
+#[test]
+fn save_into_every_length_near_the_right_one() {
+    let mut random = Random::new(49);
+    let planes = random_planes(&mut random, 2, Values::Wild);
+    let [dc, low, high] = &planes;
+    let right = 32 + 1024 * 2;
+    for length in (0..40).chain(right - 40..right).chain(right + 1..right + 40) {
+        let mut bytes = lend_filled_bytes(&mut random, length);
+        let answer = lapped::save(0, size(2, 1), dc, low, high, bytes.slice_mut());
+        assert_eq!(number(answer), Err(12), "{length} bytes");
+        bytes.assert_unchanged(&format!("{length} bytes"));
+    }
+}
+
+/// Random bytes are no file; whatever they are, both say the same of them.
+#[test]
+fn random_bytes() {
+    let mut random = Random::new(50);
+    for _ in 0..2000 {
+        let count = random.below(100);
+        let mut bytes = random.bytes(count);
+        // Some with a likely start, so that the later checks are met too.
+        for index in 0..random.below(1 + bytes.len() / 4).min(8) {
+            let word = random.below(4) as u32;
+            set_word(&mut bytes, index, word);
+        }
+        let expected = reference_header(reference::plane_file::read_header(&bytes));
+        assert_eq!(read_header(&bytes), expected);
+    }
+}

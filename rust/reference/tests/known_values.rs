@@ -1,0 +1,107 @@
+//! The values that 01 gives, starred and unstarred, held against the reference.
+
+use reference::operators::inverse as op;
+use reference::operators::{FORWARD_REORDER, INVERSE_REORDER};
+use reference::plane_file::{read_header, save};
+use reference::{inverse, program, quarter_view, Size};
+
+#[test]
+fn two_by_two_hadamard() {
+    assert_eq!(op::hadamard([4, 0, 0, 0], 0), [2, 2, 2, 2]);
+    assert_eq!(op::hadamard([1, 0, 0, 0], 0), [1, 0, 0, 0]);
+    assert_eq!(op::hadamard([-1, 0, 0, 0], 0), [0, -1, -1, -1]);
+    assert_eq!(op::hadamard([1, 0, 0, 0], 1), [0, 1, 1, 1]);
+    assert_eq!(op::hadamard([-1, 0, 0, 0], 1), [-1, 0, 0, 0]);
+    assert_eq!(
+        op::hadamard([2147483647, 0, 0, 1], 0),
+        [-1073741824, -1073741825, -1073741825, -1073741824]
+    );
+}
+
+#[test]
+fn other_small_operators() {
+    assert_eq!(op::odd([8, 0, 0, 0]), [6, 5, 2, 2]);
+    assert_eq!(op::odd_odd([8, 0, 0, 0]), [7, -3, -3, 1]);
+    assert_eq!(op::rotation([0, 1]), [-1, 1]);
+    assert_eq!(op::scale([8, 0]), [9, 5]);
+    assert_eq!(op::scale([-1, 0]), [-2, -2]);
+    assert_eq!(op::post_hadamard([8, 0, 0, 0]), [4, 0, 0, 4]);
+}
+
+#[test]
+fn core_transform() {
+    let mut coefficients = [0; 16];
+    coefficients[0] = 16;
+    assert_eq!(op::core(coefficients), [4; 16]);
+
+    coefficients = [0; 16];
+    coefficients[1] = 8;
+    let rows = [[3, 1, -1, -3], [3, 1, -1, -3], [3, 1, -1, -3], [2, 1, -1, -3]];
+    assert_eq!(op::core(coefficients), rows.concat()[..]);
+}
+
+#[test]
+fn each_reorder_undoes_the_other() {
+    for k in 0..16 {
+        assert_eq!(FORWARD_REORDER[INVERSE_REORDER[k]], k);
+        assert_eq!(INVERSE_REORDER[FORWARD_REORDER[k]], k);
+    }
+}
+
+/// The samples of a 1 × 1 picture in mode 0 whose only number is its DC.
+fn samples_of_dc(dc: i32) -> Vec<i32> {
+    let mut samples = vec![7; 256];
+    inverse(0, Size::new(1, 1), &[dc], &[0; 15], &[0; 240], &mut samples).unwrap();
+    samples
+}
+
+#[test]
+fn dc_one_gives_nine_ones() {
+    let samples = samples_of_dc(1);
+    for row in 0..16 {
+        for column in 0..16 {
+            let block = (row / 4) * 4 + column / 4;
+            let place = (row % 4, column % 4);
+            let one = [1, 4, 5].contains(&block) && [(0, 1), (1, 0), (1, 1)].contains(&place);
+            assert_eq!(samples[16 * row + column], i32::from(one), "row {row}, column {column}");
+        }
+    }
+}
+
+fn file_of_dc(mode: u32, size: Size, dc: i32) -> Vec<u8> {
+    let n = size.macroblocks() as usize;
+    let mut bytes = vec![0; 32 + 1024 * n];
+    save(mode, size, &vec![dc; n], &vec![0; 15 * n], &vec![0; 240 * n], &mut bytes).unwrap();
+    bytes
+}
+
+#[test]
+fn program_on_dc_64_prints_sixteen_lines_of_fours() {
+    let text = program::output(&file_of_dc(0, Size::new(1, 1), 64));
+    assert_eq!(text, "4 4 4 4 4 4 4 4 4 4 4 4 4 4 4 4\n".repeat(16));
+}
+
+#[test]
+fn limits_of_mode_and_size() {
+    // The first check after the sizes is that of the DC plane: 4 says that the sizes passed.
+    let answer = |mode, width, height| {
+        quarter_view(mode, Size::new(width, height), &[], &[], &mut []).unwrap_err()
+    };
+    assert_eq!(answer(0, 0, 1), 2);
+    assert_eq!(answer(0, 1, 1), 4);
+    assert_eq!(answer(0, 525, 1), 4);
+    assert_eq!(answer(0, 526, 1), 2);
+    assert_eq!(answer(0, 1, 413), 4);
+    assert_eq!(answer(0, 1, 414), 3);
+    assert_eq!(answer(3, 0, 1), 1);
+}
+
+#[test]
+fn limits_of_files() {
+    let sound = file_of_dc(0, Size::new(1, 1), 64);
+    assert!(read_header(&sound).is_ok());
+    assert_eq!(read_header(&sound[..31]), Err(9));
+    let longer = [&sound[..], &[0]].concat();
+    assert_eq!(read_header(&longer), Err(12));
+    assert_eq!(program::output(&file_of_dc(0, Size::new(17, 1), 64)), "refused 13\n");
+}
