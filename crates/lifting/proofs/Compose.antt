@@ -1,4 +1,4 @@
--- Programs one after another.
+-- Programs one after another: they run in their order and are undone in the other, by induction on the first.
 use Prim.Native.Nat.{ℕ, zero, suc}
 use mathlib.Core.Path.{_≡_, refl, sym, _∙_, ap}
 use mathlib.Core.List.{List, [], _∷_}

@@ -154,9 +154,3 @@ module _ (P : ℕ → Type 0) where
 pub all-map : {P Q : ℕ → Type 0} (ps : List ℕ) → ((i : ℕ) → P i → Q i) → All P ps → All Q ps
 all-map [] f h = tt
 all-map (p ∷ ps) f h = (f p (h .0), all-map ps f (h .1))
-
--- ---- sets that go by a colour: where all places of a use have one colour, it is on one side of each of them
-
-pub one-colour : (colour : ℕ → ℕ) (Q : ℕ → Type 0) (k : ℕ) (ps : List ℕ) → Dec (Q k) → All (λ i. colour i ≡ k) ps → OneSide (λ i. Q (colour i)) ps
-one-colour colour Q k ps (yes q) h = inl (all-map ps (λ i e. subst (λ (c : ℕ). Q c) (sym e) q) h)
-one-colour colour Q k ps (no f) h = inr (all-map ps (λ i e q. f (subst (λ (c : ℕ). Q c) e q)) h)

@@ -67,14 +67,6 @@ unfolding put
 row-put [] f r = r
 row-put (p ∷ ps) f r = row-put ps (row-tail f) (row-set p (f .fit 0) r)
 
-pub fit-value : (e : Expr) {n : ℕ} {v : List ℤ} → Row n v → SFits w32 (value e v)
-unfolding value
-fit-value (var i) r = r .fit i
-fit-value (e ⊕ k) r = wrap-fits _
-fit-value (e ⊖ f) r = wrap-fits _
-fit-value (3× e) r = wrap-fits _
-fit-value (e ≫ k) {v} r = sfits-le (mag-shr (value e v) (2 ^ k)) (fit-value e r)
-
 -- ---- a reorder
 
 -- counting from i over m numbers reads a list as it is

@@ -1,4 +1,4 @@
--- Programs made of many uses are valid where each use is, by induction on the program; places moved by a map that keeps them apart stay apart.
+-- Programs one after another are valid where each is, by induction on the first; places moved by a map that keeps them apart stay apart.
 use Prim.Native.Nat.{ℕ, zero, suc, _+_, _*_, _/_, _≤_, _<_}
 use mathlib.Core.Path.{_≡_, refl, sym, _∙_, ap, subst}
 use mathlib.Core.Logic.{_≢_}
@@ -26,11 +26,6 @@ valid-then n (apply o r ps p) q s t =
     let (a, b) = and-yes (places n ps) _ s in
     let (c, d) = and-yes (valid (length ps) r) _ b in
     yes-and (places n ps) _ a (yes-and (valid (length ps) r) _ c (valid-then n p q d t))
-
-pub valid-each : (n m : ℕ) (f : ℕ → Program) → ((k : ℕ) → k < m → T (valid n (f k))) → T (valid n (each m f))
-unfolding each
-valid-each n zero f h = tt
-valid-each n (suc m) f h = valid-then n (each m f) (f m) (valid-each n m f (λ k l. h k (omega arith))) (h m (omega arith))
 
 -- places moved by a map that keeps them apart
 module _ (m n : ℕ) (g : ℕ → ℕ) (low : (i : ℕ) → i < m → g i < n) (inj : (i j : ℕ) → i < m → j < m → g i ≡ g j → i ≡ j) where
