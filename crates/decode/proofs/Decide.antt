@@ -15,7 +15,8 @@ use Rattle.plane_file.specs.declared.header.Header.{Header}
 use Rattle.plane_file.specs.Words.{wordAt}
 use Rattle.plane_file.specs.Header.{wordsOf, headerOf, answer}
 use Rattle.plane_file.specs.Numbers.{layoutChecks, startChecks, totalCheck, countIn, headerChecks, lengthChecks, headerNumber, loadNumber}
-use Rattle.plane_file.proofs.Checks.{Lengths, all-pass, first-zero, fits-planes, number-of, read-done}
+use Rattle.picture.proofs.CheckLaws.{Lengths, all-pass}
+use Rattle.plane_file.proofs.Checks.{first-zero, fits-planes, number-of, read-done}
 use Rattle.decode.specs.Program.{countCheck, programNumber, planesOf, samplesOf}
 
 -- ---- 13

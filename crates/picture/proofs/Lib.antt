@@ -1,4 +1,5 @@
 pub mod NumberLaws
+pub mod CheckLaws
 pub mod Table
 pub mod Geometry
 pub mod Grid

@@ -11,6 +11,7 @@ use borrow.Author.Tests.{ltb-false, le-ltb, eq-eqb, ne-eqb, eqb-true, not-false}
 use Rattle.picture.specs.Claims.{Shape}
 use Rattle.picture.specs.Planes.{Planes}
 use Rattle.picture.specs.Numbers.{Check, _if_, firstOf, settled, unlike, outside, shapeChecks, planeChecks}
+use Rattle.picture.proofs.CheckLaws.{AllPass, all-pass, either-false, within, like, Lengths, lengths-of}
 use Rattle.picture.proofs.NumberLaws.{numbered, refused-first, passed-first, settled-done, settled-refused}
 use Rattle.plane_file.specs.declared.header.Header.{Header}
 use Rattle.plane_file.specs.declared.header.Words.{Words}
@@ -18,53 +19,6 @@ use Rattle.plane_file.specs.Words.{wordAt}
 use Rattle.plane_file.specs.Header.{wordsOf, headerOf, answer}
 use Rattle.plane_file.specs.Layout.{dcOffset, lowOffset, highOffset, total}
 use Rattle.plane_file.specs.Numbers.{misplaced, layoutChecks, wordChecks, startChecks, totalCheck, countIn, headerChecks, lengthChecks, headerNumber, saveNumber}
-
--- every test is false
-abbrev pub AllPass : List Check → Type 0
-AllPass [] = Unit {0}
-AllPass ((k if b) ∷ cs) = (b ≡ false) × AllPass cs
-
-pub all-pass : (cs : List Check) → T (numbered cs) → firstOf cs ≡ 0 → AllPass cs
-all-pass [] t e = tt
-all-pass ((zero if b) ∷ cs) t e = absurd t
-all-pass ((suc k if false) ∷ cs) t e = (refl, all-pass cs t e)
-all-pass ((suc k if true) ∷ cs) t e = absurd (omega (arith, e))
-
-pub either-false : (a b : Bool) → a || b ≡ false → (a ≡ false) × (b ≡ false)
-either-false false b e = (refl, e)
-either-false true b e = absurd (yes e)
-  where
-    yes : true ≡ false → ⊥
-    yes e = let z : _≡_ {A = ℕ} 0 1 = cc in omega arith
-
-within : (most x : ℕ) → ltb x 1 || ltb most x ≡ false → (1 ≤ x) × (x ≤ most)
-within most x e = let p = either-false (ltb x 1) (ltb most x) e in (ltb-false x 1 (p .0), ltb-false most x (p .1))
-
-pub shaped : (mode W H : ℕ) → firstOf (shapeChecks mode W H) ≡ 0 → Shape mode W H
-shaped mode W H e =
-    let p = all-pass (shapeChecks mode W H) tt e in
-    record { known = ltb-false 2 mode (p .0); width = within 525 W (p .1 .0); height = within 413 H (p .1 .1 .0) }
-
-pub few : (W H : ℕ) → W ≤ 525 → H ≤ 413 → W * H ≤ 216825
-few W H a b = mul-le-mul a b
-
--- ---- checks that passed, as facts
-
-like : (a b : ℕ) → unlike a b ≡ false → a ≡ b
-like a b e = eqb-true a b (not-false (eqb a b) e)
-
-pub record Lengths (n d l h : ℕ) : Type 0 where
-  pub dc : d ≡ n
-  pub low : l ≡ 15 * n
-  pub high : h ≡ 240 * n
-
-lengths-of : (n dc low high : ℕ) → unlike dc n ≡ false → unlike low (15 * n) ≡ false → unlike high (240 * n) ≡ false → Lengths n dc low high
-lengths-of n dc low high a b c = record { dc = like dc n a; low = like low (15 * n) b; high = like high (240 * n) c }
-
-pub planes-fit : (n dc low high : ℕ) → firstOf (planeChecks n dc low high) ≡ 0 → Lengths n dc low high
-planes-fit n dc low high e =
-    let p = all-pass (planeChecks n dc low high) tt e in
-    lengths-of n dc low high (p .0) (p .1 .0) (p .1 .1 .0)
 
 pub record SaveFits (mode W H : ℕ) (s : Planes) (bytes : List ℕ) : Type 0 where
   pub shape : Shape mode W H

@@ -22,7 +22,8 @@ use Rattle.plane_file.specs.Layout.{dcOffset, lowOffset, highOffset, tot
 use Rattle.plane_file.specs.Numbers.{countIn, headerChecks, lengthChecks, headerNumber, loadNumber}
 use Rattle.plane_file.specs.Claims.{LoadUndoesSave, Bytes, Saves, SaveUndoesLoad}
 use Rattle.plane_file.proofs.Signs.{low-small, word-number, number-word}
-use Rattle.plane_file.proofs.Checks.{Lengths, HeaderFits, few, header-fits, fits-header, fits-planes, fits-save, first-zero, answer-done}
+use Rattle.picture.proofs.CheckLaws.{Lengths, few}
+use Rattle.plane_file.proofs.Checks.{HeaderFits, header-fits, fits-header, fits-planes, fits-save, first-zero, answer-done}
 use Rattle.plane_file.proofs.Parts.{numbers-length}
 use Rattle.plane_file.proofs.Written.{header-length}
 

@@ -9,7 +9,7 @@ use Rattle.picture.specs.Planes.{Planes}
 use Rattle.plane_file.specs.Words.{word, words, numbers, numbersAt}
 use Rattle.plane_file.specs.Layout.{total, header, planes, file, planesIn}
 use Rattle.plane_file.proofs.Parts.{then-at, numbers-length}
-use Rattle.plane_file.proofs.Checks.{Lengths}
+use Rattle.picture.proofs.CheckLaws.{Lengths}
 
 pub header-length : (mode W H : ℕ) → length (header mode W H) ≡ 32
 unfolding header words

@@ -7,7 +7,7 @@ use borrow.Author.Needs.{needs}
 use borrow.Author.Tests.{eq-eqb, ne-eqb}
 use Rattle.picture.specs.Numbers.{shapeChecks, sampleCheck, planeChecks, forwardNumber}
 use Rattle.picture.proofs.NumberLaws.{refused-first, passed-first}
-use Rattle.forward.proofs.Checks.{shape-passed, few}
+use Rattle.picture.proofs.CheckLaws.{shaped, few}
 use Rattle.forward.proofs.check.Statement.{statement}
 use Rattle.forward.proofs.check.Tie as tie
 
@@ -22,7 +22,8 @@ returns c =
 room : (c : tie.Else1) → let a = c .before .before .args in a .size .width .0 * a .size .height .0 ≤ 216825
 room c =
     let a = c .before .before .args in
-    few (a .mode) (a .size .width .0) (a .size .height .0) (shape-passed (a .mode) (a .size .width .0) (a .size .height .0) (sym (c .before .check-shape .ensures) ∙ c .if1 .left))
+    let s = shaped (a .mode) (a .size .width .0) (a .size .height .0) (sym (c .before .check-shape .ensures) ∙ c .if1 .left) in
+    few (a .size .width .0) (a .size .height .0) (s .width .1) (s .height .1)
 
 returns-2 : tie.Need-returns-2
 unfolding forwardNumber

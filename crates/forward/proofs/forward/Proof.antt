@@ -6,7 +6,8 @@ use Rattle.picture.specs.Claims.{Shape}
 use Rattle.picture.specs.Transform.{forward, firstUndone, secondUndone}
 use Rattle.forward.specs.Lent.{Lent}
 use Rattle.picture.proofs.NumberLaws.{settled-done, settled-refused}
-use Rattle.forward.proofs.Checks.{all-passed, never-unknown, known-mode}
+use Rattle.picture.proofs.CheckLaws.{known-filters, is-known}
+use Rattle.forward.proofs.Checks.{all-passed}
 use Rattle.forward.proofs.forward.Statement.{statement}
 use Rattle.forward.proofs.forward.Tie as tie
 
@@ -24,7 +25,7 @@ past c =
 returns-2 : tie.Need-returns-2
 returns-2 c =
     let f = c .before .before in
-    absurd (never-unknown _ (past (f .before) .0 .known) (sym (f .from-number .ensures) ∙ c .enum-told .given .1))
+    absurd (is-known _ (past (f .before) .0 .known) (sym (c .enum-told .given .1) ∙ f .from-number .ensures))
 
 returns-3 : tie.Need-returns-3
 unfolding forward firstUndone secondUndone
@@ -34,9 +35,9 @@ returns-3 c =
     let f = k .before .before .before in
     let e = f .before in
     let g = k .before .answer .given in
-    let m = known-mode _ (g .0 .0) (past e .0 .known) (sym (g .1) ∙ f .from-number .ensures) in
+    let m = known-filters _ (g .0 .0) (past e .0 .known) (sym (g .1) ∙ f .from-number .ensures) in
     let o = t .transform .ensures in
-    (sym (e .if1 .left) ∙ e .before .check .ensures, (rw (m .0, m .1) at (o .0), (rw (m .0, m .1) at (o .1 .0), rw (m .1) at (o .1 .1))))
+    (sym (e .if1 .left) ∙ e .before .check .ensures, (rw (m .one, m .two) at (o .0), (rw (m .one, m .two) at (o .1 .0), rw (m .two) at (o .1 .1))))
 
 pub forward-spec : {M : Type 1} → statement M
 forward-spec =

@@ -9,7 +9,8 @@ use lib.ListN.{length}
 use Rattle.picture.specs.Claims.{Shape}
 use Rattle.picture.specs.Numbers.{Check, shapeChecks, planeChecks, sampleCheck, inverseNumber}
 use Rattle.picture.proofs.NumberLaws.{settled-refused}
-use Rattle.inverse.proofs.Checks.{shape-passed, planes-passed, most, refused-one, refused-two, number-three, Filters, known-filters, is-known, inverse-is}
+use Rattle.picture.proofs.CheckLaws.{Filters, known-filters, is-known}
+use Rattle.inverse.proofs.Checks.{shape-passed, planes-passed, most, refused-one, refused-two, number-three, inverse-is}
 use Rattle.inverse.proofs.inverse.Statement.{statement}
 use Rattle.inverse.proofs.inverse.Tie as tie
 

@@ -9,7 +9,8 @@ use lib.ListN.{length}
 use Rattle.picture.specs.Claims.{Shape}
 use Rattle.picture.specs.Numbers.{Check, shapeChecks, lowChecks, viewCheck, quarterNumber}
 use Rattle.picture.proofs.NumberLaws.{settled-refused}
-use Rattle.inverse.proofs.Checks.{shape-passed, low-passed, most, refused-one, refused-two, number-three, Filters, known-filters, is-known, quarter-is}
+use Rattle.picture.proofs.CheckLaws.{Filters, known-filters, is-known}
+use Rattle.inverse.proofs.Checks.{shape-passed, low-passed, most, refused-one, refused-two, number-three, quarter-is}
 use Rattle.inverse.proofs.quarter_view.Statement.{statement}
 use Rattle.inverse.proofs.quarter_view.Tie as tie
 

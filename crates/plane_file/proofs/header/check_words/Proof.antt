@@ -8,7 +8,8 @@ use Rattle.picture.specs.Claims.{Shape}
 use Rattle.picture.specs.Numbers.{_if_, firstOf, shapeChecks}
 use Rattle.picture.proofs.NumberLaws.{refused-first, passed-first}
 use Rattle.plane_file.specs.Numbers.{layoutChecks, wordChecks}
-use Rattle.plane_file.proofs.Checks.{shaped, laid}
+use Rattle.picture.proofs.CheckLaws.{shaped}
+use Rattle.plane_file.proofs.Checks.{laid}
 use Rattle.plane_file.proofs.header.check_words.Statement.{statement}
 use Rattle.plane_file.proofs.header.check_words.Tie as tie
 

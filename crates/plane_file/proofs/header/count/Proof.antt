@@ -2,7 +2,7 @@
 use mathlib.Core.Path.{refl}
 use native.Mathlib.Omega.{arith}
 use Prim.Native.Nat.{_*_, _≤_}
-use Rattle.plane_file.proofs.Checks.{few}
+use Rattle.picture.proofs.CheckLaws.{few}
 use Rattle.plane_file.proofs.header.count.Statement.{statement}
 use Rattle.plane_file.proofs.header.count.Tie as tie
 

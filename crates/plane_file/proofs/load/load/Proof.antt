@@ -11,7 +11,8 @@ use Rattle.plane_file.specs.declared.header.Header.{Header}
 use Rattle.plane_file.specs.Header.{answer}
 use Rattle.plane_file.specs.Layout.{planes, planesIn}
 use Rattle.plane_file.specs.Numbers.{headerChecks, lengthChecks, totalCheck, countIn, headerNumber, loadNumber}
-use Rattle.plane_file.proofs.Checks.{Lengths, HeaderFits, planes-fit, header-fits, still-refused, next-refused, next-done, read-shape, read-count, number-of, unchanged, changed}
+use Rattle.picture.proofs.CheckLaws.{Lengths, planes-fit}
+use Rattle.plane_file.proofs.Checks.{HeaderFits, header-fits, still-refused, next-refused, next-done, read-shape, read-count, number-of, unchanged, changed}
 use Rattle.plane_file.proofs.Written.{planes-read}
 use Rattle.plane_file.proofs.load.load.Statement.{statement}
 use Rattle.plane_file.proofs.load.load.Tie as tie

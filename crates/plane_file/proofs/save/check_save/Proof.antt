@@ -6,7 +6,8 @@ use borrow.Author.Needs.{needs}
 use Rattle.picture.specs.Numbers.{Check, firstOf, shapeChecks, planeChecks}
 use Rattle.picture.proofs.NumberLaws.{refused-first, passed-first}
 use Rattle.plane_file.specs.Numbers.{totalCheck}
-use Rattle.plane_file.proofs.Checks.{shaped, total-off, total-on}
+use Rattle.picture.proofs.CheckLaws.{shaped}
+use Rattle.plane_file.proofs.Checks.{total-off, total-on}
 use Rattle.plane_file.proofs.save.check_save.Statement.{statement}
 use Rattle.plane_file.proofs.save.check_save.Tie as tie
 
