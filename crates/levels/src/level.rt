@@ -11,7 +11,7 @@ use crate::square::put_four;
 use crate::square::put_square;
 use blocks::core;
 use blocks::square_filter;
-use overlap::four_filter;
+use four_filter::four_filter;
 
 // ---- one use
 

@@ -86,7 +86,7 @@ fn put_window(
 fn unfiltered(v: [i32; 4]) -> [i32; 4]
     ensures { λ r. ⌜ four r ≡ undo fourFilter (four v) ⌝ }
 {
-    let f = overlap::undo_four_filter(v[0], v[1], v[2], v[3]);
+    let f = four_filter::undo_four_filter(v[0], v[1], v[2], v[3]);
     let a = f.a;
     let b = f.b;
     let c = f.c;

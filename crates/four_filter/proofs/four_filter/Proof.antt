@@ -3,8 +3,8 @@ use mir.Syntax.{w32}
 use mir.ValLaws.{toZ-ofZ}
 use Rattle.operators.proofs.Figures.{four-filter-pieces}
 use Rattle.operators.proofs.Parts.{place, pair, four}
-use Rattle.overlap.proofs.four_filter.Statement.{statement}
-use Rattle.overlap.proofs.four_filter.Tie as tie
+use Rattle.four_filter.proofs.four_filter.Statement.{statement}
+use Rattle.four_filter.proofs.four_filter.Tie as tie
 
 returns : tie.Need-returns
 returns c9 =

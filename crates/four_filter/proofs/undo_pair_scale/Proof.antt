@@ -5,8 +5,8 @@ use Rattle.lifting.specs.Program.{undo, back, line, value}
 use Rattle.lifting.proofs.Bits.{again, again-shr}
 use borrow.Author.Needs.{needs}
 use Rattle.operators.specs.Pieces.{pairScale}
-use Rattle.overlap.proofs.undo_pair_scale.Statement.{statement}
-use Rattle.overlap.proofs.undo_pair_scale.Tie as tie
+use Rattle.four_filter.proofs.undo_pair_scale.Statement.{statement}
+use Rattle.four_filter.proofs.undo_pair_scale.Tie as tie
 
 returns : tie.Need-returns
 unfolding undo back line value pairScale

@@ -7,8 +7,8 @@ use borrow.Author.Needs.{needs}
 use Rattle.operators.specs.Figures.{rotation}
 use Rattle.operators.specs.Pieces.{fourRotation}
 use Rattle.operators.proofs.Parts.{place}
-use Rattle.overlap.proofs.undo_four_rotation.Statement.{statement}
-use Rattle.overlap.proofs.undo_four_rotation.Tie as tie
+use Rattle.four_filter.proofs.undo_four_rotation.Statement.{statement}
+use Rattle.four_filter.proofs.undo_four_rotation.Tie as tie
 
 returns : tie.Need-returns
 unfolding undo back line value get put rotation fourRotation

@@ -4,8 +4,8 @@ use mir.Syntax.{w32}
 use mir.ValLaws.{toZ-ofZ}
 use Rattle.operators.proofs.Figures.{undo-four-filter-pieces}
 use Rattle.operators.proofs.Parts.{place, pair}
-use Rattle.overlap.proofs.undo_four_filter.Statement.{statement}
-use Rattle.overlap.proofs.undo_four_filter.Tie as tie
+use Rattle.four_filter.proofs.undo_four_filter.Statement.{statement}
+use Rattle.four_filter.proofs.undo_four_filter.Tie as tie
 
 returns : tie.Need-returns
 returns c7 =
