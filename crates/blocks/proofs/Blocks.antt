@@ -11,7 +11,7 @@ use Rattle.lifting.specs.Program.{Program, Operator, end, apply, at, get, put, 
 use Rattle.lifting.proofs.Bits.{back}
 use Rattle.operators.specs.Block.{flat, list}
 use Rattle.operators.specs.declared.Four.{Four}
-use Rattle.blocks.specs.declared.quads.Quads.{Quads}
+use Rattle.blocks.specs.declared.Quads.{Quads}
 use Rattle.operators.proofs.Parts.{keptFour}
 
 -- ---- the numbers of a block

@@ -1,7 +1,7 @@
 -- The sixteen numbers of a block as four fours, in the ways in which the stages of Figures 4.8 and 4.14 take them.
 use mathlib.Core.List.{List, [], _∷_}
 use lib.IntN.{ℤ}
-use Rattle.blocks.specs.declared.quads.Quads.{Quads}
+use Rattle.blocks.specs.declared.Quads.{Quads}
 
 -- the fours at the places 0 1 4 5, 2 3 6 7, 8 12 9 13 and 10 11 14 15: the first stage of Figure 4.8
 unfoldable pub quartered : Quads → List ℤ

@@ -1,77 +1,86 @@
-// The core transform and the square overlap filter, on blocks of four rows of four numbers (Figures 4.8 and 4.14).
-mod core_stages; // core_stages.rt: the two stages of Figure 4.8
-mod filter_stages; // filter_stages.rt: the stages of Figure 4.14
-mod quads; // quads.rt: blocks as four fours, and back
-
+// Blocks of four rows of four numbers as four fours, and back.
 ghost use mathlib.Core.Path.{_≡_};
-ghost use Rattle.lifting.specs.Program.{run, undo, get};
-ghost use Rattle.operators.specs.Block.{flat};
-ghost use Rattle.operators.specs.Figures.{core as coreLines, squareFilter as squareFilterLines, forwardReorder, inverseReorder};
-ghost use Rattle.blocks.specs.Quads.{quartered as quarteredList};
-use crate::core_stages::run_stages;
-use crate::core_stages::undo_stages;
-use crate::filter_stages::run_filter;
-use crate::filter_stages::undo_filter;
-use crate::quads::Quads;
-use crate::quads::mirrored;
-use crate::quads::pick;
-use crate::quads::quartered;
-use crate::quads::row;
-use crate::quads::split;
+ghost use mathlib.Core.List.{[], _∷_};
+ghost use Prim.Native.Nat.{_<_};
+ghost use Rattle.lifting.specs.Program.{get, at as number};
+ghost use Rattle.operators.specs.Block.{flat, list};
+ghost use Rattle.blocks.specs.Quads.{quartered as quarteredList, mirrored as mirroredList};
+use operators::Four;
 
-// The reorder that begins Figure 4.8, and its undoing: coefficient k goes to the place in entry k (01, "One block").
-pub const INVERSE_REORDER: [usize; 16] = [0, 8, 4, 13, 2, 15, 3, 14, 1, 12, 5, 9, 7, 11, 6, 10];
+pub struct Quads {
+    pub p: Four,
+    pub q: Four,
+    pub r: Four,
+    pub s: Four,
+}
 
-pub const FORWARD_REORDER: [usize; 16] = [0, 8, 4, 6, 2, 10, 14, 12, 1, 11, 15, 13, 9, 3, 7, 5];
-
-// The quarters of a block that is reordered as Figure 4.8 begins: place i takes the coefficient at the forward table's entry i.
-fn reorder(b: [[i32; 4]; 4]) -> Quads
-    ensures { λ r. ⌜ quarteredList r ≡ get forwardReorder (flat b) ⌝ }
+// Coefficient k of a block
+fn at(b: [[i32; 4]; 4], k: usize) -> i32
+    requires { ⌜ k < 16 ⌝ }
+    ensures { λ r. ⌜ r ≡ number (flat b) k ⌝ }
 {
-    let t = FORWARD_REORDER;
-    let p = pick(b, t[0], t[1], t[4], t[5]);
-    let q = pick(b, t[2], t[3], t[6], t[7]);
-    let r = pick(b, t[8], t[12], t[9], t[13]);
-    let s = pick(b, t[10], t[11], t[14], t[15]);
+    b[k / 4][k % 4]
+}
+
+// Four coefficients of a block
+pub fn pick(b: [[i32; 4]; 4], i: usize, j: usize, k: usize, l: usize) -> Four
+    requires { ⌜ (i < 16) × (j < 16) × (k < 16) × (l < 16) ⌝ }
+    ensures { λ r. ⌜ list r ≡ get (i ∷ j ∷ k ∷ l ∷ []) (flat b) ⌝ }
+{
+    Four {
+        a: at(b, i),
+        b: at(b, j),
+        c: at(b, k),
+        d: at(b, l),
+    }
+}
+
+// A block as its mirrored fours
+pub fn split(b: [[i32; 4]; 4]) -> Quads
+    ensures { λ r. ⌜ mirroredList r ≡ flat b ⌝ }
+{
+    let p = pick(b, 0, 3, 12, 15);
+    let q = pick(b, 1, 2, 13, 14);
+    let r = pick(b, 4, 7, 8, 11);
+    let s = pick(b, 5, 6, 9, 10);
     Quads { p, q, r, s }
 }
 
-// The reorder undone: place i takes the coefficient at the inverse table's entry i.
-fn undo_reorder(b: [[i32; 4]; 4]) -> [[i32; 4]; 4]
-    ensures { λ r. ⌜ flat r ≡ get inverseReorder (flat b) ⌝ }
+// The block of these mirrored fours
+pub fn mirrored(f: Quads) -> [[i32; 4]; 4]
+    ensures { λ r. ⌜ flat r ≡ mirroredList f ⌝ }
 {
-    let t = INVERSE_REORDER;
-    let p = pick(b, t[0], t[1], t[2], t[3]);
-    let q = pick(b, t[4], t[5], t[6], t[7]);
-    let r = pick(b, t[8], t[9], t[10], t[11]);
-    let s = pick(b, t[12], t[13], t[14], t[15]);
-    [row(p), row(q), row(r), row(s)]
+    let p = f.p;
+    let q = f.q;
+    let r = f.r;
+    let s = f.s;
+    [
+        [p.a, q.a, q.b, p.b],
+        [r.a, s.a, s.b, r.b],
+        [r.c, s.c, s.d, r.d],
+        [p.c, q.c, q.d, p.d],
+    ]
 }
 
-// Figure 4.8
-pub fn core(b: [[i32; 4]; 4]) -> [[i32; 4]; 4]
-    ensures { λ r. ⌜ flat r ≡ run coreLines (flat b) ⌝ }
+// The block of these quarters
+pub fn quartered(f: Quads) -> [[i32; 4]; 4]
+    ensures { λ r. ⌜ flat r ≡ quarteredList f ⌝ }
 {
-    mirrored(run_stages(reorder(b)))
+    let p = f.p;
+    let q = f.q;
+    let r = f.r;
+    let s = f.s;
+    [
+        [p.a, p.b, q.a, q.b],
+        [p.c, p.d, q.c, q.d],
+        [r.a, r.c, s.a, s.b],
+        [r.b, r.d, s.c, s.d],
+    ]
 }
 
-// Figure 4.8 undone
-pub fn undo_core(b: [[i32; 4]; 4]) -> [[i32; 4]; 4]
-    ensures { λ r. ⌜ flat r ≡ undo coreLines (flat b) ⌝ }
+// A four as a row of a block
+pub fn row(f: Four) -> [i32; 4]
+    ensures { λ r. ⌜ r ≡ list f ⌝ }
 {
-    undo_reorder(quartered(undo_stages(split(b))))
-}
-
-// Figure 4.14
-pub fn square_filter(b: [[i32; 4]; 4]) -> [[i32; 4]; 4]
-    ensures { λ r. ⌜ flat r ≡ run squareFilterLines (flat b) ⌝ }
-{
-    mirrored(run_filter(split(b)))
-}
-
-// Figure 4.14 undone
-pub fn undo_square_filter(b: [[i32; 4]; 4]) -> [[i32; 4]; 4]
-    ensures { λ r. ⌜ flat r ≡ undo squareFilterLines (flat b) ⌝ }
-{
-    mirrored(undo_filter(split(b)))
+    [f.a, f.b, f.c, f.d]
 }

@@ -9,9 +9,9 @@ use crate::square::get_four;
 use crate::square::get_square;
 use crate::square::put_four;
 use crate::square::put_square;
-use blocks::core;
-use blocks::square_filter;
+use core_transform::core;
 use four_filter::four_filter;
+use square_filter::square_filter;
 
 // ---- one use
 

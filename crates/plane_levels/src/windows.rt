@@ -107,7 +107,7 @@ pub fn undo_core(
     ensures { λ u. ⌜ numbersIn grid (now (first .exit)) (now (low .exit)) (now (rest .exit)) ≡ undo (coreAt (4 * squaresAcross grid) (cell (squaresAcross grid) (4 * j) (4 * i))) (numbersIn grid (now (first .entry)) (now (low .entry)) (now (rest .entry))) ⌝ }
     ensures { λ u. ⌜ Room grid (now (first .exit)) (now (low .exit)) (now (rest .exit)) ⌝ }
 {
-    let b = blocks::undo_core(block(first, low, rest, grid, j, i));
+    let b = core_transform::undo_core(block(first, low, rest, grid, j, i));
     put_block(first, low, rest, grid, j, i, b);
 }
 
@@ -124,7 +124,7 @@ pub fn undo_square_filter(
     ensures { λ u. ⌜ numbersIn grid (now (first .exit)) (now (low .exit)) (now (rest .exit)) ≡ undo (squareFilterAt (4 * squaresAcross grid) (cell (squaresAcross grid) (4 * j + 2) (4 * i + 2))) (numbersIn grid (now (first .entry)) (now (low .entry)) (now (rest .entry))) ⌝ }
     ensures { λ u. ⌜ Room grid (now (first .exit)) (now (low .exit)) (now (rest .exit)) ⌝ }
 {
-    let b = blocks::undo_square_filter(window(first, low, rest, grid, j, i));
+    let b = square_filter::undo_square_filter(window(first, low, rest, grid, j, i));
     put_window(first, low, rest, grid, j, i, b);
 }
 

@@ -1,0 +1,59 @@
+// The core transform of a block of four rows of four numbers (Figure 4.8).
+mod core_stages; // core_stages.rt: the two stages of Figure 4.8
+
+ghost use mathlib.Core.Path.{_≡_};
+ghost use Rattle.lifting.specs.Program.{run, undo, get};
+ghost use Rattle.operators.specs.Block.{flat};
+ghost use Rattle.operators.specs.Figures.{core as coreLines, forwardReorder, inverseReorder};
+ghost use Rattle.blocks.specs.Quads.{quartered as quarteredList};
+use crate::core_stages::run_stages;
+use crate::core_stages::undo_stages;
+use blocks::Quads;
+use blocks::mirrored;
+use blocks::pick;
+use blocks::quartered;
+use blocks::row;
+use blocks::split;
+
+// The reorder that begins Figure 4.8, and its undoing: coefficient k goes to the place in entry k (01, "One block").
+pub const INVERSE_REORDER: [usize; 16] = [0, 8, 4, 13, 2, 15, 3, 14, 1, 12, 5, 9, 7, 11, 6, 10];
+
+pub const FORWARD_REORDER: [usize; 16] = [0, 8, 4, 6, 2, 10, 14, 12, 1, 11, 15, 13, 9, 3, 7, 5];
+
+// The quarters of a block that is reordered as Figure 4.8 begins: place i takes the coefficient at the forward table's entry i.
+fn reorder(b: [[i32; 4]; 4]) -> Quads
+    ensures { λ r. ⌜ quarteredList r ≡ get forwardReorder (flat b) ⌝ }
+{
+    let t = FORWARD_REORDER;
+    let p = pick(b, t[0], t[1], t[4], t[5]);
+    let q = pick(b, t[2], t[3], t[6], t[7]);
+    let r = pick(b, t[8], t[12], t[9], t[13]);
+    let s = pick(b, t[10], t[11], t[14], t[15]);
+    Quads { p, q, r, s }
+}
+
+// The reorder undone: place i takes the coefficient at the inverse table's entry i.
+fn undo_reorder(b: [[i32; 4]; 4]) -> [[i32; 4]; 4]
+    ensures { λ r. ⌜ flat r ≡ get inverseReorder (flat b) ⌝ }
+{
+    let t = INVERSE_REORDER;
+    let p = pick(b, t[0], t[1], t[2], t[3]);
+    let q = pick(b, t[4], t[5], t[6], t[7]);
+    let r = pick(b, t[8], t[9], t[10], t[11]);
+    let s = pick(b, t[12], t[13], t[14], t[15]);
+    [row(p), row(q), row(r), row(s)]
+}
+
+// Figure 4.8
+pub fn core(b: [[i32; 4]; 4]) -> [[i32; 4]; 4]
+    ensures { λ r. ⌜ flat r ≡ run coreLines (flat b) ⌝ }
+{
+    mirrored(run_stages(reorder(b)))
+}
+
+// Figure 4.8 undone
+pub fn undo_core(b: [[i32; 4]; 4]) -> [[i32; 4]; 4]
+    ensures { λ r. ⌜ flat r ≡ undo coreLines (flat b) ⌝ }
+{
+    undo_reorder(quartered(undo_stages(split(b))))
+}
