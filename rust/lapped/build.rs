@@ -11,10 +11,7 @@ fn main() {
     };
     let library = folder.join("liblapped.a");
     println!("cargo:rerun-if-changed={}", library.display());
-    let Ok(folder) = folder.canonicalize().and_then(|folder| {
-        library.metadata()?;
-        Ok(folder)
-    }) else {
+    if !library.is_file() {
         eprintln!(
             "error: {} is not there.\n\
              Run `rt staticlib lapped` at the root of the repository, which proves the library and \
@@ -23,7 +20,8 @@ fn main() {
             library.display()
         );
         process::exit(1);
-    };
+    }
+    let folder = folder.canonicalize().expect("the folder of a file that is there");
     println!("cargo:rustc-link-search=native={}", folder.display());
     println!("cargo:rustc-link-lib=static=lapped");
     // The test of the C example links the same archive.

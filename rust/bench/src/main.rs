@@ -5,10 +5,9 @@
 mod measure;
 
 use lapped::Size;
-use measure::median_nanoseconds;
+use measure::{black_box, median_nanoseconds};
 use reference::picture::{inverse_with_scratch, Scratch};
 use reference::random::{Random, Values};
-use std::hint::black_box;
 
 /// Sizes in macroblocks, from one macroblock to the largest picture.
 const SIZES: [(u32, u32); 4] = [(1, 1), (4, 4), (64, 64), (525, 413)];

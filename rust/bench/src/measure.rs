@@ -2,6 +2,17 @@
 
 use std::time::Duration;
 
+/// Gives back what it was given, but the compiler cannot know that, and leaves in place what is done
+/// with it. The standard library has one only since Rust 1.66, and Debian 12 has 1.63.
+pub fn black_box<T>(value: T) -> T {
+    // SAFETY: the value is read once more and forgotten where it was, so there is still one of it.
+    unsafe {
+        let same = std::ptr::read_volatile(&value);
+        std::mem::forget(value);
+        same
+    }
+}
+
 /// What is timed: one call on buffers that all jobs share.
 pub type Job<'a, Buffers> = &'a dyn Fn(&mut Buffers);
 

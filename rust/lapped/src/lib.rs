@@ -84,6 +84,7 @@ impl fmt::Display for Refusal {
 
 impl std::error::Error for Refusal {}
 
+/// What the library's number means.
 fn answer(number: u32) -> Result<(), Refusal> {
     if number == 0 {
         return Ok(());
@@ -100,6 +101,22 @@ fn header(header: ffi::Header) -> Result<Header, Refusal> {
     Ok(Header { mode: header.mode, size: header.size })
 }
 
+/// Calls a function of the C interface: plain arguments first, then the slices that it reads, then
+/// those that it writes, each as a pointer and a length.
+macro_rules! call {
+    ($function:ident($($plain:ident),*); $($read:ident),*; $($written:ident),*) => {
+        // SAFETY: each pointer comes with the length of the slice that it is taken from, and the
+        // borrow checker keeps what is written apart from all else.
+        unsafe {
+            ffi::$function(
+                $($plain,)*
+                $($read.as_ptr(), $read.len(),)*
+                $($written.as_mut_ptr(), $written.len(),)*
+            )
+        }
+    };
+}
+
 /// From coefficient planes to samples.
 pub fn inverse(
     mode: u32,
@@ -109,22 +126,7 @@ pub fn inverse(
     high: &[i32],
     samples: &mut [i32],
 ) -> Result<(), Refusal> {
-    // SAFETY, here and below: each pointer comes with the length of the slice that it is taken from,
-    // and the borrow checker keeps what is written apart from all else.
-    answer(unsafe {
-        ffi::lapped_inverse(
-            mode,
-            size,
-            dc.as_ptr(),
-            dc.len(),
-            low.as_ptr(),
-            low.len(),
-            high.as_ptr(),
-            high.len(),
-            samples.as_mut_ptr(),
-            samples.len(),
-        )
-    })
+    answer(call!(lapped_inverse(mode, size); dc, low, high; samples))
 }
 
 /// The quarter-size view, 16 n numbers, from the DC and low-pass planes alone.
@@ -135,18 +137,7 @@ pub fn quarter_view(
     low: &[i32],
     view: &mut [i32],
 ) -> Result<(), Refusal> {
-    answer(unsafe {
-        ffi::lapped_quarter(
-            mode,
-            size,
-            dc.as_ptr(),
-            dc.len(),
-            low.as_ptr(),
-            low.len(),
-            view.as_mut_ptr(),
-            view.len(),
-        )
-    })
+    answer(call!(lapped_quarter(mode, size); dc, low; view))
 }
 
 /// From samples to coefficient planes.
@@ -159,26 +150,13 @@ pub fn forward(
     low: &mut [i32],
     high: &mut [i32],
 ) -> Result<(), Refusal> {
-    answer(unsafe {
-        ffi::lapped_forward(
-            mode,
-            size,
-            samples.as_ptr(),
-            samples.len(),
-            dc.as_mut_ptr(),
-            dc.len(),
-            low.as_mut_ptr(),
-            low.len(),
-            high.as_mut_ptr(),
-            high.len(),
-        )
-    })
+    answer(call!(lapped_forward(mode, size); samples; dc, low, high))
 }
 
 /// The header of a plane file that is lent whole.
 #[cfg(feature = "plane_file")]
 pub fn read_header(bytes: &[u8]) -> Result<Header, Refusal> {
-    header(unsafe { ffi::lapped_read_header(bytes.as_ptr(), bytes.len()) })
+    header(call!(lapped_read_header(); bytes;))
 }
 
 /// Fills the planes from a plane file.
@@ -189,18 +167,7 @@ pub fn load(
     low: &mut [i32],
     high: &mut [i32],
 ) -> Result<Header, Refusal> {
-    header(unsafe {
-        ffi::lapped_load(
-            bytes.as_ptr(),
-            bytes.len(),
-            dc.as_mut_ptr(),
-            dc.len(),
-            low.as_mut_ptr(),
-            low.len(),
-            high.as_mut_ptr(),
-            high.len(),
-        )
-    })
+    header(call!(lapped_load(); bytes; dc, low, high))
 }
 
 /// Writes a plane file of 32 + 1024 n bytes.
@@ -213,18 +180,5 @@ pub fn save(
     high: &[i32],
     bytes: &mut [u8],
 ) -> Result<(), Refusal> {
-    answer(unsafe {
-        ffi::lapped_save(
-            mode,
-            size,
-            dc.as_ptr(),
-            dc.len(),
-            low.as_ptr(),
-            low.len(),
-            high.as_ptr(),
-            high.len(),
-            bytes.as_mut_ptr(),
-            bytes.len(),
-        )
-    })
+    answer(call!(lapped_save(mode, size); dc, low, high; bytes))
 }

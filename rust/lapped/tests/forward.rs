@@ -27,13 +27,6 @@ fn forward(mode: u32, size: lapped::Size, samples: &[i32], random: &mut Random) 
     })
 }
 
-fn inverse(mode: u32, size: lapped::Size, planes: &[Vec<i32>; 3]) -> Vec<i32> {
-    let [dc, low, high] = planes;
-    let mut samples = vec![0; 256 * dc.len()];
-    lapped::inverse(mode, size, dc, low, high, &mut samples).unwrap();
-    samples
-}
-
 fn assert_planes(found: &[Vec<i32>; 3], expected: &[Vec<i32>; 3], what: &str) {
     for (i, name) in ["DC", "low-pass", "high-pass"].into_iter().enumerate() {
         assert_same(&found[i], &expected[i], &format!("{what}, {name} plane"));
@@ -62,11 +55,11 @@ fn random_pictures_and_round_trips() {
                 assert_agrees(mode, shape, &samples, &mut random);
 
                 let planes = forward(mode, shape, &samples, &mut random);
-                let back = inverse(mode, shape, &planes);
+                let back = samples_of(mode, shape, &planes);
                 assert_same(&back, &samples, &format!("{what}, inverse of forward"));
 
                 let planes = random_planes(&mut random, n, values);
-                let samples = inverse(mode, shape, &planes);
+                let samples = samples_of(mode, shape, &planes);
                 let back = forward(mode, shape, &samples, &mut random);
                 assert_planes(&back, &planes, &format!("{what}, forward of inverse"));
             }
@@ -81,53 +74,23 @@ fn largest_picture() {
     assert_agrees(2, size(525, 413), &samples, &mut random);
 }
 
-fn assert_refuses(arguments: Arguments, expected: u32, what: &str, random: &mut Random) {
-    let Arguments { mode, size, .. } = arguments;
-    let [samples, mut dc, mut low, mut high] =
-        [7, 4, 5, 6].map(|number| lend_filled(random, arguments.length(number)));
-    let answer = lapped::forward(
-        mode,
-        size,
-        samples.slice(),
-        dc.slice_mut(),
-        low.slice_mut(),
-        high.slice_mut(),
-    );
-    assert_eq!(number(answer), Err(expected), "{what}");
-    for lent in [&samples, &dc, &low, &high] {
-        lent.assert_unchanged(what);
-    }
-    let answer = reference::forward(
-        mode,
-        reference_size(size),
-        samples.slice(),
-        dc.slice_mut(),
-        low.slice_mut(),
-        high.slice_mut(),
-    );
-    assert_eq!(answer, Err(expected), "the reference: {what}");
-}
+const FORWARD: Operation<4> = Operation {
+    checks: &[1, 2, 3, 7, 4, 5, 6],
+    lent: [7, 4, 5, 6],
+    library: |mode, size, [samples, dc, low, high], _| {
+        lapped::forward(mode, size, samples, dc, low, high)
+    },
+    reference: |mode, size, [samples, dc, low, high], _| {
+        reference::forward(mode, size, samples, dc, low, high)
+    },
+};
 
 #[test]
 fn every_set_of_faults() {
-    let mut random = Random::new(23);
-    for (arguments, expected, what) in refused_arguments(&[1, 2, 3, 7, 4, 5, 6], &mut random) {
-        assert_refuses(arguments, expected, &what, &mut random);
-    }
+    FORWARD.assert_refuses_every_set_of_faults(&mut Random::new(23));
 }
 
 #[test]
 fn limits_with_matching_lengths() {
-    let mut random = Random::new(24);
-    for (mode, shape, expected) in [
-        (0, size(0, 1), 2),
-        (1, size(526, 1), 2),
-        (2, size(1, 0), 3),
-        (0, size(1, 414), 3),
-        (3, size(0, 1), 1),
-        (3, size(1, 1), 1),
-    ] {
-        let arguments = Arguments::sound(mode, shape);
-        assert_refuses(arguments, expected, &format!("{arguments:?}"), &mut random);
-    }
+    FORWARD.assert_refuses_outside_the_limits(&mut Random::new(24));
 }

@@ -86,49 +86,26 @@ fn largest_picture() {
     assert_agrees(2, size(525, 413), &planes, &mut random);
 }
 
-fn assert_refuses(arguments: Arguments, expected: u32, what: &str, random: &mut Random) {
-    let Arguments { mode, size, .. } = arguments;
-    let [dc, low, high, mut samples] =
-        [4, 5, 6, 7].map(|number| lend_filled(random, arguments.length(number)));
-    let answer =
-        lapped::inverse(mode, size, dc.slice(), low.slice(), high.slice(), samples.slice_mut());
-    assert_eq!(number(answer), Err(expected), "{what}");
-    for lent in [&dc, &low, &high, &samples] {
-        lent.assert_unchanged(what);
-    }
-    let answer = reference::inverse(
-        mode,
-        reference_size(size),
-        dc.slice(),
-        low.slice(),
-        high.slice(),
-        samples.slice_mut(),
-    );
-    assert_eq!(answer, Err(expected), "the reference: {what}");
-}
+const INVERSE: Operation<4> = Operation {
+    checks: &[1, 2, 3, 4, 5, 6, 7],
+    lent: [4, 5, 6, 7],
+    library: |mode, size, [dc, low, high, samples], _| {
+        lapped::inverse(mode, size, dc, low, high, samples)
+    },
+    reference: |mode, size, [dc, low, high, samples], _| {
+        reference::inverse(mode, size, dc, low, high, samples)
+    },
+};
 
 #[test]
 fn every_set_of_faults() {
-    let mut random = Random::new(6);
-    for (arguments, expected, what) in refused_arguments(&[1, 2, 3, 4, 5, 6, 7], &mut random) {
-        assert_refuses(arguments, expected, &what, &mut random);
-    }
+    INVERSE.assert_refuses_every_set_of_faults(&mut Random::new(6));
 }
 
-/// Just outside the limits, with all lengths right for that size.
 #[test]
 fn limits_with_matching_lengths() {
     let mut random = Random::new(7);
-    for (mode, shape, expected) in [
-        (0, size(0, 1), 2),
-        (1, size(526, 1), 2),
-        (2, size(1, 0), 3),
-        (0, size(1, 414), 3),
-        (2, size(526, 414), 2),
-        (3, size(0, 1), 1),
-        (3, size(1, 1), 1),
-    ] {
-        let arguments = Arguments::sound(mode, shape);
-        assert_refuses(arguments, expected, &format!("{arguments:?}"), &mut random);
-    }
+    INVERSE.assert_refuses_outside_the_limits(&mut random);
+    let arguments = Arguments::sound(2, size(526, 414));
+    INVERSE.assert_refuses(arguments, 2, "one beyond the largest picture", &mut random);
 }

@@ -17,10 +17,6 @@ fn file(mode: u32, size: lapped::Size, planes: &[Vec<i32>; 3]) -> Vec<u8> {
     words.into_iter().chain(numbers).flat_map(u32::to_le_bytes).collect()
 }
 
-fn set_word(bytes: &mut [u8], index: usize, word: u32) {
-    bytes[4 * index..4 * index + 4].copy_from_slice(&word.to_le_bytes());
-}
-
 fn word(bytes: &[u8], index: usize) -> u32 {
     u32::from_le_bytes(bytes[4 * index..4 * index + 4].try_into().unwrap())
 }
@@ -31,7 +27,7 @@ fn read_header(bytes: &[u8]) -> ffi::Header {
 }
 
 fn load(bytes: &[u8], planes: &mut [Lent<i32>; 3]) -> ffi::Header {
-    let [dc, low, high] = planes.each_mut().map(|plane| plane.slice_mut());
+    let [dc, low, high] = slices(planes);
     unsafe {
         ffi::lapped_load(
             bytes.as_ptr(),
@@ -91,7 +87,7 @@ fn assert_file_sound(
     let what = format!("{header:?}");
     let bytes = lend_bytes(random, bytes);
     assert_eq!(read_header(bytes.slice()), header);
-    let mut planes = expected.each_ref().map(|plane| lend_filled(random, plane.len()));
+    let mut planes = [0, 1, 2].map(|i| lend_filled(random, expected[i].len()));
     assert_eq!(load(bytes.slice(), &mut planes), header);
     for (plane, expected) in planes.iter().zip(expected) {
         plane.assert_holds(expected, &what);
@@ -144,7 +140,7 @@ fn safe_calls_give_what_the_c_calls_give() {
     let mut bytes = file(1, size(2, 3), &planes);
     let header = lapped::Header { mode: 1, size: size(2, 3) };
     assert_eq!(lapped::read_header(&bytes), Ok(header));
-    let [mut dc, mut low, mut high] = planes.each_ref().map(|plane| vec![0; plane.len()]);
+    let [mut dc, mut low, mut high] = [6, 15 * 6, 240 * 6].map(|count| vec![0; count]);
     assert_eq!(lapped::load(&bytes, &mut dc, &mut low, &mut high), Ok(header));
     assert_eq!([dc, low, high], planes);
     set_word(&mut bytes, 7, 1);
@@ -290,7 +286,7 @@ fn assert_load_refused(
     for plane in &planes {
         plane.assert_unchanged(what);
     }
-    let [dc, low, high] = planes.each_mut().map(|plane| plane.slice_mut());
+    let [dc, low, high] = slices(&mut planes);
     let answer = reference_header(reference::plane_file::load(bytes.slice(), dc, low, high));
     assert_eq!(answer, refused(expected), "the reference: {what}");
 }
@@ -341,31 +337,23 @@ fn load_into_planes_of_every_wrong_length() {
     }
 }
 
+const SAVE: Operation<3> = Operation {
+    checks: &[1, 2, 3, 4, 5, 6, 12],
+    lent: [4, 5, 6],
+    library: |mode, size, [dc, low, high], bytes| lapped::save(mode, size, dc, low, high, bytes),
+    reference: |mode, size, [dc, low, high], bytes| {
+        reference::plane_file::save(mode, size, dc, low, high, bytes)
+    },
+};
+
 #[test]
 fn every_set_of_faults_of_save() {
-    let mut random = Random::new(48);
-    for (arguments, expected, what) in refused_arguments(&[1, 2, 3, 4, 5, 6, 12], &mut random) {
-        let Arguments { mode, size, .. } = arguments;
-        let [dc, low, high] =
-            [4, 5, 6].map(|number| lend_filled(&mut random, arguments.length(number)));
-        let mut bytes = lend_filled_bytes(&mut random, arguments.length(12));
-        let answer =
-            lapped::save(mode, size, dc.slice(), low.slice(), high.slice(), bytes.slice_mut());
-        assert_eq!(number(answer), Err(expected), "{what}");
-        for plane in [&dc, &low, &high] {
-            plane.assert_unchanged(&what);
-        }
-        bytes.assert_unchanged(&what);
-        let answer = reference::plane_file::save(
-            mode,
-            reference_size(size),
-            dc.slice(),
-            low.slice(),
-            high.slice(),
-            bytes.slice_mut(),
-        );
-        assert_eq!(answer, Err(expected), "the reference: {what}");
-    }
+    SAVE.assert_refuses_every_set_of_faults(&mut Random::new(48));
+}
+
+#[test]
+fn limits_of_save_with_matching_lengths() {
+    SAVE.assert_refuses_outside_the_limits(&mut Random::new(52));
 }
 
 /// Save refuses every length near the right one.

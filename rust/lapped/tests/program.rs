@@ -1,6 +1,8 @@
 //! The program `samples`, run on plane files, against the reference's text.
 #![cfg(feature = "program")]
 
+mod common;
+use common::set_word;
 use reference::random::{Random, Values};
 use reference::{plane_file, program, Size};
 use std::io::Write;
@@ -55,10 +57,6 @@ fn file(mode: u32, size: Size, random: &mut Random, values: Values) -> Vec<u8> {
     let mut bytes = vec![0; 32 + 1024 * n];
     plane_file::save(mode, size, &dc, &low, &high, &mut bytes).unwrap();
     bytes
-}
-
-fn set_word(bytes: &mut [u8], index: usize, word: u32) {
-    bytes[4 * index..4 * index + 4].copy_from_slice(&word.to_le_bytes());
 }
 
 /// The program refuses with this number, and so does the reference.

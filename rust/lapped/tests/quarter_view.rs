@@ -31,44 +31,19 @@ fn random_pictures() {
     }
 }
 
-fn assert_refuses(arguments: Arguments, expected: u32, what: &str, random: &mut Random) {
-    let Arguments { mode, size, .. } = arguments;
-    let [dc, low, mut view] = [4, 5, 8].map(|number| lend_filled(random, arguments.length(number)));
-    let answer = lapped::quarter_view(mode, size, dc.slice(), low.slice(), view.slice_mut());
-    assert_eq!(number(answer), Err(expected), "{what}");
-    for lent in [&dc, &low, &view] {
-        lent.assert_unchanged(what);
-    }
-    let answer = reference::quarter_view(
-        mode,
-        reference_size(size),
-        dc.slice(),
-        low.slice(),
-        view.slice_mut(),
-    );
-    assert_eq!(answer, Err(expected), "the reference: {what}");
-}
+const QUARTER_VIEW: Operation<3> = Operation {
+    checks: &[1, 2, 3, 4, 5, 8],
+    lent: [4, 5, 8],
+    library: |mode, size, [dc, low, view], _| lapped::quarter_view(mode, size, dc, low, view),
+    reference: |mode, size, [dc, low, view], _| reference::quarter_view(mode, size, dc, low, view),
+};
 
 #[test]
 fn every_set_of_faults() {
-    let mut random = Random::new(12);
-    for (arguments, expected, what) in refused_arguments(&[1, 2, 3, 4, 5, 8], &mut random) {
-        assert_refuses(arguments, expected, &what, &mut random);
-    }
+    QUARTER_VIEW.assert_refuses_every_set_of_faults(&mut Random::new(12));
 }
 
 #[test]
 fn limits_with_matching_lengths() {
-    let mut random = Random::new(13);
-    for (mode, shape, expected) in [
-        (0, size(0, 1), 2),
-        (1, size(526, 1), 2),
-        (2, size(1, 0), 3),
-        (0, size(1, 414), 3),
-        (3, size(0, 1), 1),
-        (3, size(1, 1), 1),
-    ] {
-        let arguments = Arguments::sound(mode, shape);
-        assert_refuses(arguments, expected, &format!("{arguments:?}"), &mut random);
-    }
+    QUARTER_VIEW.assert_refuses_outside_the_limits(&mut Random::new(13));
 }

@@ -65,13 +65,6 @@ fn change_one(mode: u32, width: usize, planes: &mut [Vec<i32>; 3], random: &mut 
     }
 }
 
-fn samples(mode: u32, size: lapped::Size, planes: &[Vec<i32>; 3]) -> Vec<i32> {
-    let [dc, low, high] = planes;
-    let mut samples = vec![0; 256 * dc.len()];
-    lapped::inverse(mode, size, dc, low, high, &mut samples).unwrap();
-    samples
-}
-
 /// The (row, column) of each sample that differs. Never empty: the inverse loses nothing.
 fn differences(size: lapped::Size, one: &[i32], other: &[i32]) -> Vec<(i32, i32)> {
     let width = 16 * size.width as usize;
@@ -104,9 +97,9 @@ fn a_single_change_stays_in_its_window() {
             for values in Values::ALL {
                 for _ in 0..60 {
                     let mut planes = random_planes(&mut random, n, values);
-                    let before = samples(mode, size(width, height), &planes);
+                    let before = samples_of(mode, size(width, height), &planes);
                     let window = change_one(mode, width as usize, &mut planes, &mut random);
-                    let after = samples(mode, size(width, height), &planes);
+                    let after = samples_of(mode, size(width, height), &planes);
                     let places = differences(size(width, height), &before, &after);
                     assert_inside(&places, &[window], &format!("mode {mode}, {width} x {height}"));
                 }
@@ -123,7 +116,7 @@ fn several_changes_stay_in_their_windows_together() {
         for mode in 0..=2 {
             for _ in 0..40 {
                 let mut planes = random_planes(&mut random, n, Values::Wild);
-                let before = samples(mode, size(width, height), &planes);
+                let before = samples_of(mode, size(width, height), &planes);
                 let old_planes = planes.clone();
                 let windows: Vec<Window> = (0..1 + random.below(4))
                     .map(|_| change_one(mode, width as usize, &mut planes, &mut random))
@@ -131,7 +124,7 @@ fn several_changes_stay_in_their_windows_together() {
                 if planes == old_planes {
                     continue; // Two changes of one number may cancel.
                 }
-                let after = samples(mode, size(width, height), &planes);
+                let after = samples_of(mode, size(width, height), &planes);
                 let places = differences(size(width, height), &before, &after);
                 assert_inside(&places, &windows, &format!("mode {mode}, {width} x {height}"));
             }
@@ -155,9 +148,9 @@ fn the_windows_are_no_wider_than_needed() {
             let mut reached = [false; 4];
             for _ in 0..200 {
                 let mut planes = random_planes(&mut random, 9, Values::Small);
-                let before = samples(mode, shape, &planes);
+                let before = samples_of(mode, shape, &planes);
                 planes[plane][place] = random.number(Values::Wild);
-                let after = samples(mode, shape, &planes);
+                let after = samples_of(mode, shape, &planes);
                 for (row, column) in differences(shape, &before, &after) {
                     reached[0] |= row == window.first_row;
                     reached[1] |= row == window.end_row - 1;

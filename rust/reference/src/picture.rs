@@ -61,6 +61,13 @@ pub(crate) fn check_length(length: usize, expected: usize, number: u32) -> Resul
     }
 }
 
+/// The checks of the three planes.
+pub(crate) fn check_planes(n: usize, dc: &[i32], low: &[i32], high: &[i32]) -> Result<(), u32> {
+    check_length(dc.len(), n, 4)?;
+    check_length(low.len(), 15 * n, 5)?;
+    check_length(high.len(), 240 * n, 6)
+}
+
 fn filters_level_one(mode: u32) -> bool {
     mode == 2
 }
@@ -101,9 +108,7 @@ pub fn inverse(
     samples: &mut [i32],
 ) -> Result<(), u32> {
     let n = check_mode_and_size(mode, size)?;
-    check_length(dc.len(), n, 4)?;
-    check_length(low.len(), 15 * n, 5)?;
-    check_length(high.len(), 240 * n, 6)?;
+    check_planes(n, dc, low, high)?;
     check_length(samples.len(), 256 * n, 7)?;
     let mut quarter = vec![0; 16 * n];
     inverse_unchecked(mode, size, dc, low, high, samples, &mut quarter);
@@ -167,9 +172,7 @@ pub fn forward(
 ) -> Result<(), u32> {
     let n = check_mode_and_size(mode, size)?;
     check_length(samples.len(), 256 * n, 7)?;
-    check_length(dc.len(), n, 4)?;
-    check_length(low.len(), 15 * n, 5)?;
-    check_length(high.len(), 240 * n, 6)?;
+    check_planes(n, dc, low, high)?;
     let mut scratch = Scratch::new(size);
     forward_with_scratch(mode, size, samples, dc, low, high, &mut scratch);
     Ok(())

@@ -1,6 +1,6 @@
 //! The plane file: header, load and save (01, "The plane file").
 
-use crate::picture::{check_length, check_mode_and_size, Size};
+use crate::picture::{check_length, check_mode_and_size, check_planes, Size};
 
 pub const HEADER_BYTES: usize = 32;
 
@@ -56,9 +56,7 @@ pub fn load(
 ) -> Result<Header, u32> {
     let header = read_header(bytes)?;
     let n = header.size.macroblocks() as usize;
-    check_length(dc.len(), n, 4)?;
-    check_length(low.len(), 15 * n, 5)?;
-    check_length(high.len(), 240 * n, 6)?;
+    check_planes(n, dc, low, high)?;
     let [low_start, high_start] = [32 + 4 * n, 32 + 64 * n];
     read_numbers(&bytes[HEADER_BYTES..low_start], dc);
     read_numbers(&bytes[low_start..high_start], low);
@@ -76,9 +74,7 @@ pub fn save(
     bytes: &mut [u8],
 ) -> Result<(), u32> {
     let n = check_mode_and_size(mode, size)?;
-    check_length(dc.len(), n, 4)?;
-    check_length(low.len(), 15 * n, 5)?;
-    check_length(high.len(), 240 * n, 6)?;
+    check_planes(n, dc, low, high)?;
     check_length(bytes.len(), HEADER_BYTES + 1024 * n, 12)?;
     let [low_start, high_start] = [32 + 4 * n, 32 + 64 * n];
     for (place, word) in bytes.chunks_exact_mut(4).zip(Header { mode, size }.words()) {

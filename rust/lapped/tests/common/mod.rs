@@ -1,4 +1,4 @@
-//! What the tests share: shapes, lent memory with guard cells, and sets of faulty arguments.
+//! What the tests share: shapes, lent memory with guard cells, faulty arguments and their refusal.
 #![allow(dead_code)] // Each test file is a crate of its own and uses a part of this.
 
 use reference::random::{Random, Values};
@@ -37,6 +37,14 @@ pub fn reference_size(size: lapped::Size) -> reference::Size {
 /// An answer of the library in the form of the reference's: the number of 01 where it refuses.
 pub fn number<T>(answer: Result<T, lapped::Refusal>) -> Result<T, u32> {
     answer.map_err(lapped::Refusal::number)
+}
+
+/// The samples that the library gives for these planes.
+pub fn samples_of(mode: u32, size: lapped::Size, planes: &[Vec<i32>; 3]) -> Vec<i32> {
+    let [dc, low, high] = planes;
+    let mut samples = vec![0; 256 * dc.len()];
+    lapped::inverse(mode, size, dc, low, high, &mut samples).unwrap();
+    samples
 }
 
 const MARGIN: usize = 64;
@@ -110,6 +118,12 @@ pub fn lend_filled_bytes(random: &mut Random, count: usize) -> Lent<u8> {
     lend_bytes(random, &contents)
 }
 
+/// All that is lent, each to be written.
+pub fn slices<const N: usize>(lent: &mut [Lent<i32>; N]) -> [&mut [i32]; N] {
+    let mut rest = lent.iter_mut();
+    [(); N].map(|()| rest.next().unwrap().slice_mut())
+}
+
 /// The DC, low-pass and high-pass planes of n macroblocks.
 pub fn random_planes(random: &mut Random, n: usize, values: Values) -> [Vec<i32>; 3] {
     [n, 15 * n, 240 * n].map(|count| random.numbers(count, values))
@@ -117,6 +131,11 @@ pub fn random_planes(random: &mut Random, n: usize, values: Values) -> [Vec<i32>
 
 pub fn lend_planes(random: &mut Random, planes: &[Vec<i32>; 3]) -> [Lent<i32>; 3] {
     [0, 1, 2].map(|i| lend_numbers(random, &planes[i]))
+}
+
+/// Puts a word into the header of a plane file.
+pub fn set_word(bytes: &mut [u8], index: usize, word: u32) {
+    bytes[4 * index..4 * index + 4].copy_from_slice(&word.to_le_bytes());
 }
 
 /// The arguments of a call but for the contents of what is lent.
@@ -217,4 +236,64 @@ pub fn refused_arguments(
         }
     }
     refused
+}
+
+/// A call with mode, size, slices of numbers and bytes.
+type Call<Size, Refusal, const N: usize> =
+    fn(u32, Size, [&mut [i32]; N], &mut [u8]) -> Result<(), Refusal>;
+
+/// A call of the library and the reference's, with what is lent to them.
+pub struct Operation<const N: usize> {
+    /// The numbers of the checks, in the order of 01.
+    pub checks: &'static [u32],
+    /// The slices of numbers, by the checks of their lengths. Bytes are lent where 12 is a check.
+    pub lent: [u32; N],
+    pub library: Call<lapped::Size, lapped::Refusal, N>,
+    pub reference: Call<reference::Size, u32, N>,
+}
+
+impl<const N: usize> Operation<N> {
+    /// Both refuse these arguments with `expected`, and the library changes nothing.
+    pub fn assert_refuses(
+        &self,
+        arguments: Arguments,
+        expected: u32,
+        what: &str,
+        random: &mut Random,
+    ) {
+        let Arguments { mode, size, .. } = arguments;
+        let mut numbers = self.lent.map(|check| lend_filled(random, arguments.length(check)));
+        let count = if self.checks.contains(&12) { arguments.length(12) } else { 0 };
+        let mut bytes = lend_filled_bytes(random, count);
+        let answer = (self.library)(mode, size, slices(&mut numbers), bytes.slice_mut());
+        assert_eq!(number(answer), Err(expected), "{what}");
+        for lent in &numbers {
+            lent.assert_unchanged(what);
+        }
+        bytes.assert_unchanged(what);
+        let size = reference_size(size);
+        let answer = (self.reference)(mode, size, slices(&mut numbers), bytes.slice_mut());
+        assert_eq!(answer, Err(expected), "the reference: {what}");
+    }
+
+    pub fn assert_refuses_every_set_of_faults(&self, random: &mut Random) {
+        for (arguments, expected, what) in refused_arguments(self.checks, random) {
+            self.assert_refuses(arguments, expected, &what, random);
+        }
+    }
+
+    /// Just outside the limits, with all lengths right for that size.
+    pub fn assert_refuses_outside_the_limits(&self, random: &mut Random) {
+        for (mode, shape, expected) in [
+            (0, size(0, 1), 2),
+            (1, size(526, 1), 2),
+            (2, size(1, 0), 3),
+            (0, size(1, 414), 3),
+            (3, size(0, 1), 1),
+            (3, size(1, 1), 1),
+        ] {
+            let arguments = Arguments::sound(mode, shape);
+            self.assert_refuses(arguments, expected, &format!("{arguments:?}"), random);
+        }
+    }
 }
