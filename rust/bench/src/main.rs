@@ -1,7 +1,8 @@
-//! Nanoseconds per sample of the proved library, the plain reference and memcpy, side by side.
+//! The proved library timed beside the plain reference, memcpy and, where it is installed, jxrlib.
 //!
-//! Usage: bench [--inverse] [--forward] [--file]; without a flag, every section.
+//! Usage: bench [--inverse] [--forward] [--file] [--jxrlib]; without a flag, every section.
 
+mod kernels;
 mod measure;
 
 use lapped::Size;
@@ -12,22 +13,19 @@ use reference::random::{Random, Values};
 /// Sizes in macroblocks, from one macroblock to the largest picture.
 const SIZES: [(u32, u32); 4] = [(1, 1), (4, 4), (64, 64), (525, 413)];
 
+const HEADING: &str = "\
+Nanoseconds of processor time per sample (for load and save: per number of the planes; for jxrlib: as
+said there), medians. The columns take turns in one run, on the same buffers. Every buffer is written
+once before the clock starts, so no first touch of a page is timed; no buffer is cleared between runs.
+The plain reference's working memory is allocated beforehand.";
+
 fn main() {
     let flags: Vec<String> = std::env::args().skip(1).collect();
     if let Some(flag) = flags.iter().find(|flag| !SECTIONS.iter().any(|(name, _)| name == flag)) {
-        eprintln!("bench: {flag} is none of --inverse, --forward and --file");
+        eprintln!("bench: {flag} is none of --inverse, --forward, --file and --jxrlib");
         std::process::exit(2);
     }
-    println!(
-        "Nanoseconds of processor time per sample (for load and save: per number of the planes),"
-    );
-    println!(
-        "medians. The three columns take turns in one run, on the same buffers. Every buffer is"
-    );
-    println!(
-        "written once before the clock starts, so no first touch of a page is timed; no buffer is"
-    );
-    println!("cleared between runs. The plain reference's working memory is allocated beforehand.");
+    println!("{HEADING}");
     for (name, section) in SECTIONS {
         if flags.is_empty() || flags.iter().any(|flag| flag == name) {
             section();
@@ -35,8 +33,12 @@ fn main() {
     }
 }
 
-const SECTIONS: [(&str, fn()); 3] =
-    [("--inverse", inverse_section), ("--forward", forward_section), ("--file", file_section)];
+const SECTIONS: [(&str, fn()); 4] = [
+    ("--inverse", inverse_section),
+    ("--forward", forward_section),
+    ("--file", file_section),
+    ("--jxrlib", kernels::section),
+];
 
 /// A picture's planes and samples, each in one buffer.
 struct Picture {

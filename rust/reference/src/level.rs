@@ -15,7 +15,8 @@ impl<'a> Grid<'a> {
         Grid { width, height, cells }
     }
 
-    fn square(&self, row: usize, column: usize) -> Block {
+    /// The 4 × 4 numbers from this row and column on.
+    pub fn square(&self, row: usize, column: usize) -> Block {
         let mut square = [0; 16];
         for (i, numbers) in square.chunks_exact_mut(4).enumerate() {
             let start = (row + i) * self.width + column;
@@ -43,7 +44,7 @@ impl<'a> Grid<'a> {
     /// Runs the overlap filters of a level, in one direction or the other: `square_filter` on the
     /// squares between four blocks, `four_filter` along the edges. The corners stay as they are.
     /// The windows are disjoint, so one order serves both directions.
-    fn filter(
+    pub fn filter(
         &mut self,
         square_filter: impl Fn(Block) -> Block,
         four_filter: impl Fn([i32; 4]) -> [i32; 4],

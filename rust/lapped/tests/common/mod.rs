@@ -47,6 +47,14 @@ pub fn samples_of(mode: u32, size: lapped::Size, planes: &[Vec<i32>; 3]) -> Vec<
     samples
 }
 
+/// The quarter view that the library gives for these planes.
+pub fn view_of(mode: u32, size: lapped::Size, planes: &[Vec<i32>; 3]) -> Vec<i32> {
+    let [dc, low, _] = planes;
+    let mut view = vec![0; 16 * dc.len()];
+    lapped::quarter_view(mode, size, dc, low, &mut view).unwrap();
+    view
+}
+
 const MARGIN: usize = 64;
 
 /// Memory lent to a call, with cells on both sides that the call must leave alone.
