@@ -1,7 +1,6 @@
 -- A number of a grid is read from the one cell of its planes that holds it, and a store into that cell changes the number at its place and no other.
 use Prim.Native.Nat.{ℕ, zero, suc, _+_, _-_, _*_, _/_, _%_, _≤_, _<_}
 use mathlib.Core.Path.{_≡_, refl, sym, _∙_, ap, subst}
-use mathlib.Core.Logic.{_≢_}
 use mathlib.Core.Bool.{Bool, true, false}
 use mathlib.Core.List.{List}
 use native.Mathlib.Omega.{arith}
@@ -13,12 +12,12 @@ use lib.Dec.{T}
 use lib.IntN.{ℤ, pos}
 use Rattle.lifting.specs.Program.{at}
 use Rattle.picture.specs.Level.{cell}
-use Rattle.picture.specs.Planes.{table, squareOf, coefficientOf, place, grid, coefficients, blockOrder, blockAt, firstGrid, secondGrid}
+use Rattle.picture.specs.Planes.{squareOf, coefficientOf, place, grid, coefficients, blockOrder, firstGrid, secondGrid}
 use Rattle.picture.proofs.Table.{length-table, at-table}
-use Rattle.picture.proofs.Geometry.{square-of-place, coefficient-of-place, place-low, place-of-square, square-low, coefficient-low, block-of-order, order-low}
+use Rattle.picture.proofs.Geometry.{square-of-place, coefficient-of-place, place-low, place-of-square, square-low, coefficient-low, order-of-block, block-of-order, block-low, order-low}
 use Rattle.picture.proofs.Grid.{at-grid, grid-is}
 use Rattle.plane_grid.specs.declared.Grid.{Grid}
-use Rattle.plane_grid.specs.Held.{squaresAcross, squaresDown, orderIn, zerosIn, numbersOf, numbersIn, Sized, ZeroRoom, Room, Inside}
+use Rattle.plane_grid.specs.Held.{squaresAcross, squaresDown, orderIn, squareIn, spotIn, coefficientAt, zerosIn, numbersOf, Sized, ZeroRoom, Inside}
 
 -- ---- one number of a grid of p by q squares
 
@@ -79,16 +78,27 @@ unfolding numbersOf squaresAcross squaresDown orderIn firstGrid secondGrid
 as-grid false W H zs rest = refl
 as-grid true W H zs rest = refl
 
-order-inj : (b : Bool) (W H : ℕ) → 0 < W → let g : Grid = record { second = b; width = W; height = H } in (s t : ℕ) → orderIn g s ≡ orderIn g t → s ≡ t
-unfolding orderIn
-order-inj false W H wide s t e = e
-order-inj true W H wide s t e = sym (block-of-order wide s) ∙ ap (blockAt W) e ∙ block-of-order wide t
+order-back : (b : Bool) (W H : ℕ) → 0 < W → let g : Grid = record { second = b; width = W; height = H } in (s : ℕ) → squareIn g (orderIn g s) ≡ s
+unfolding orderIn squareIn
+order-back false W H wide s = refl
+order-back true W H wide s = block-of-order wide s
+
+square-back : (b : Bool) (W H : ℕ) → 0 < W → let g : Grid = record { second = b; width = W; height = H } in (t : ℕ) → orderIn g (squareIn g t) ≡ t
+unfolding orderIn squareIn
+square-back false W H wide t = refl
+square-back true W H wide t = order-of-block wide t
 
 order-under : (b : Bool) (W H : ℕ) → 0 < W → let g : Grid = record { second = b; width = W; height = H } in
     (s : ℕ) → s < squaresAcross g * squaresDown g → orderIn g s < squaresAcross g * squaresDown g
 unfolding orderIn squaresAcross squaresDown
 order-under false W H wide s h = h
 order-under true W H wide s h = omega (arith, order-low wide H s (omega arith))
+
+square-under : (b : Bool) (W H : ℕ) → 0 < W → let g : Grid = record { second = b; width = W; height = H } in
+    (t : ℕ) → t < squaresAcross g * squaresDown g → squareIn g t < squaresAcross g * squaresDown g
+unfolding squareIn squaresAcross squaresDown
+square-under false W H wide t h = h
+square-under true W H wide t h = omega (arith, block-low wide H t (omega arith))
 
 across-wide : (b : Bool) (W H : ℕ) → 0 < W → 0 < squaresAcross (record { second = b; width = W; height = H })
 unfolding squaresAcross
@@ -101,55 +111,78 @@ grid-of g zs rest = as-grid (g .second) (g .width) (g .height) zs rest
 back-one : (k : ℕ) → suc k - 1 ≡ k
 back-one k = omega arith
 
--- the square in row j and column i, and its coefficient k
-pub cell-place : {p : ℕ} (j i k : ℕ) → i < p → cell p (4 * j + k / 4) (4 * i + k % 4) ≡ place p (j * p + i) k
-cell-place j i k h = rw (digits-div j h, digits-mod j h)
-
-module _ (g : Grid) (sized : Sized g) (j i : ℕ) (in-grid : Inside g j i) where
-  below : j < squaresDown g
-  below = in-grid .below
-
-  beside : i < squaresAcross g
-  beside = in-grid .beside
-
+module _ (g : Grid) (sized : Sized g) where
   wide′ : 0 < squaresAcross g
   wide′ = across-wide (g .second) (g .width) (g .height) (sized .wide)
 
-  pub inside : j * squaresAcross g + i < squaresAcross g * squaresDown g
-  inside = omega (arith, digits-lt below beside)
+  square-of-order : (s : ℕ) → squareIn g (orderIn g s) ≡ s
+  square-of-order = order-back (g .second) (g .width) (g .height) (sized .wide)
 
-  pub order-inside : orderIn g (j * squaresAcross g + i) < squaresAcross g * squaresDown g
-  order-inside = order-under (g .second) (g .width) (g .height) (sized .wide) _ inside
+  order-inj : (s t : ℕ) → orderIn g s ≡ orderIn g t → s ≡ t
+  order-inj s t e = sym (square-of-order s) ∙ ap (squareIn g) e ∙ square-of-order t
 
-  pub zero-read : (zs rest : List ℤ) (k : ℕ) → k ≡ 0
-      → at (numbersOf g zs rest) (cell (squaresAcross g) (4 * j + k / 4) (4 * i + k % 4)) ≡ at zs (j * squaresAcross g + i)
-  zero-read zs rest zero e =
-      ap (at (numbersOf g zs rest)) (cell-place j i 0 beside)
-      ∙ rw (grid-of g zs rest) (at-grid wide′ (squaresDown g) _ _ 0 inside (omega arith))
+-- ---- coefficient k of the square that stands t-th in the order of squares
+
+module _ (g : Grid) (sized : Sized g) (t : ℕ) (h : t < squaresAcross g * squaresDown g) where
+  pub order-of-square : orderIn g (squareIn g t) ≡ t
+  order-of-square = square-back (g .second) (g .width) (g .height) (sized .wide) t
+
+  pub square-inside : squareIn g t < squaresAcross g * squaresDown g
+  square-inside = square-under (g .second) (g .width) (g .height) (sized .wide) t h
+
+  pub zero-read : (zs rest : List ℤ) (k : ℕ) → k ≡ 0 → at (numbersOf g zs rest) (spotIn g t k) ≡ at zs (squareIn g t)
+  unfolding spotIn
+  zero-read zs rest zero e = rw (grid-of g zs rest) (at-grid (wide′ g sized) (squaresDown g) _ _ 0 square-inside (omega arith))
   zero-read zs rest (suc k) e = absurd (omega (arith, e))
 
-  pub rest-read : (zs rest : List ℤ) (k : ℕ) → k < 16 → (k ≡ 0 → ⊥)
-      → at (numbersOf g zs rest) (cell (squaresAcross g) (4 * j + k / 4) (4 * i + k % 4)) ≡ at rest (15 * orderIn g (j * squaresAcross g + i) + (k - 1))
-  rest-read zs rest zero h n = absurd (n refl)
-  rest-read zs rest (suc k) h n =
-      ap (at (numbersOf g zs rest)) (cell-place j i (suc k) beside)
-      ∙ rw (grid-of g zs rest, back-one k) (at-grid wide′ (squaresDown g) _ _ (suc k) inside h)
+  pub rest-read : (zs rest : List ℤ) (k : ℕ) → k < 16 → (k ≡ 0 → ⊥) → at (numbersOf g zs rest) (spotIn g t k) ≡ at rest (15 * t + (k - 1))
+  unfolding spotIn
+  rest-read zs rest zero l n = absurd (n refl)
+  rest-read zs rest (suc k) l n =
+      rw (grid-of g zs rest, back-one k)
+      (at-grid (wide′ g sized) (squaresDown g) _ _ (suc k) square-inside l ∙ ap (λ (o : ℕ). at rest (15 * o + k)) order-of-square)
 
   pub zero-store : (zs rest : List ℤ) (k : ℕ) (x : ℤ) → k ≡ 0 → squaresAcross g * squaresDown g ≤ length zs
-      → numbersOf g (set zs (j * squaresAcross g + i) x) rest ≡ set (numbersOf g zs rest) (cell (squaresAcross g) (4 * j + k / 4) (4 * i + k % 4)) x
-  zero-store zs rest zero x e h =
-      let l : j * squaresAcross g + i < length zs = omega (arith, inside) in
-      rw (cell-place j i 0 beside, grid-of g (set zs (j * squaresAcross g + i) x) rest, grid-of g zs rest)
-      (set-zero wide′ (squaresDown g) (orderIn g) zs rest _ x inside l)
-  zero-store zs rest (suc k) x e h = absurd (omega (arith, e))
+      → numbersOf g (set zs (squareIn g t) x) rest ≡ set (numbersOf g zs rest) (spotIn g t k) x
+  unfolding spotIn
+  zero-store zs rest zero x e r =
+      let l : squareIn g t < length zs = omega (arith, square-inside) in
+      rw (grid-of g (set zs (squareIn g t) x) rest, grid-of g zs rest)
+      (set-zero (wide′ g sized) (squaresDown g) (orderIn g) zs rest _ x square-inside l)
+  zero-store zs rest (suc k) x e r = absurd (omega (arith, e))
 
   pub rest-store : (zs rest : List ℤ) (k : ℕ) (x : ℤ) → k < 16 → (k ≡ 0 → ⊥) → 15 * (squaresAcross g * squaresDown g) ≤ length rest
-      → numbersOf g zs (set rest (15 * orderIn g (j * squaresAcross g + i) + (k - 1)) x) ≡ set (numbersOf g zs rest) (cell (squaresAcross g) (4 * j + k / 4) (4 * i + k % 4)) x
-  rest-store zs rest zero x h n r = absurd (n refl)
-  rest-store zs rest (suc k) x h n r =
-      let l : 15 * orderIn g (j * squaresAcross g + i) + k < length rest = omega (arith, order-inside) in
-      rw (back-one k, cell-place j i (suc k) beside, grid-of g zs (set rest (15 * orderIn g (j * squaresAcross g + i) + k) x), grid-of g zs rest)
-      (set-rest wide′ (squaresDown g) (orderIn g) (order-inj (g .second) (g .width) (g .height) (sized .wide)) zs rest _ k x inside (omega arith) l)
+      → numbersOf g zs (set rest (15 * t + (k - 1)) x) ≡ set (numbersOf g zs rest) (spotIn g t k) x
+  unfolding spotIn
+  rest-store zs rest zero x l n r = absurd (n refl)
+  rest-store zs rest (suc k) x l n r =
+      let m : 15 * orderIn g (squareIn g t) + k < length rest = omega (arith, order-of-square) in
+      let e : 15 * t + (suc k - 1) ≡ 15 * orderIn g (squareIn g t) + k = rw (back-one k, order-of-square) in
+      ap (λ (o : ℕ). numbersOf g zs (set rest o x)) e
+      ∙ rw (grid-of g zs (set rest (15 * orderIn g (squareIn g t) + k) x), grid-of g zs rest)
+      (set-rest (wide′ g sized) (squaresDown g) (orderIn g) (order-inj g sized) zs rest _ k x square-inside (omega arith) m)
+
+-- ---- the square in row j and column i
+
+cell-place : {p : ℕ} (j i k : ℕ) → i < p → cell p (4 * j + k / 4) (4 * i + k % 4) ≡ place p (j * p + i) k
+cell-place j i k h = rw (digits-div j h, digits-mod j h)
+
+-- it stands t-th in the order of squares
+pub record Ordered (g : Grid) (j i t : ℕ) : Type 0 where
+  pub sized : Sized g
+  pub in-grid : Inside g j i
+  pub is : t ≡ orderIn g (j * squaresAcross g + i)
+
+pub ordered-low : {g : Grid} {j i t : ℕ} → Ordered g j i t → t < squaresAcross g * squaresDown g
+ordered-low {g} {j} {i} o =
+    let s : j * squaresAcross g + i < squaresAcross g * squaresDown g = omega (arith, digits-lt (o .in-grid .below) (o .in-grid .beside)) in
+    omega (arith, o .is, order-under (g .second) (g .width) (g .height) (o .sized .wide) _ s)
+
+pub spot-is : {g : Grid} {j i t : ℕ} → Ordered g j i t → (k : ℕ) → spotIn g t k ≡ coefficientAt (squaresAcross g) j i k
+unfolding spotIn
+spot-is {g} {j} {i} o k =
+    ap (λ (s : ℕ). place (squaresAcross g) s k) (ap (squareIn g) (o .is) ∙ square-of-order g (o .sized) (j * squaresAcross g + i))
+    ∙ sym (cell-place j i k (o .in-grid .beside))
 
 -- ---- coefficients 0: `first` itself, or the grid of level one
 
@@ -210,6 +243,10 @@ pub record Square (g : Grid) (f l : List ℤ) (s t : ℕ) : Type 0 where
   pub room : ZeroRoom g f l
   pub inside : s < squaresAcross g * squaresDown g
   pub ordered : t ≡ orderIn g s
+
+pub square-at : (g : Grid) {f l : List ℤ} {t : ℕ} → ZeroRoom g f l → t < squaresAcross g * squaresDown g → Square g f l (squareIn g t) t
+square-at g {t = t} r h =
+    record { room = r; inside = square-inside g (r .sized) t h; ordered = sym (order-of-square g (r .sized) t h) }
 
 module _ (W H s t : ℕ) (f l : List ℤ) where
   placed′ : (b : Bool) → Square (gridOf b W H) f l s t → b ≡ true → Placed t f l

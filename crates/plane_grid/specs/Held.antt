@@ -6,7 +6,7 @@ use mathlib.Core.List.{List, [], _∷_}
 use lib.ListN.{length}
 use lib.IntN.{ℤ}
 use Rattle.picture.specs.Level.{cell}
-use Rattle.picture.specs.Planes.{blockOrder, firstGrid, secondGrid}
+use Rattle.picture.specs.Planes.{place, blockOrder, blockAt, firstGrid, secondGrid}
 use Rattle.plane_grid.specs.declared.Grid.{Grid}
 
 -- a macroblock is one square of level one and 4 x 4 squares of level two
@@ -27,6 +27,21 @@ ordered true W s = blockOrder W s
 
 unfoldable pub orderIn : Grid → ℕ → ℕ
 orderIn g s = ordered (g .second) (g .width) s
+
+-- and back: the square that stands t-th there
+abbrev standing : Bool → ℕ → ℕ → ℕ
+standing false W t = t
+standing true W t = blockAt W t
+
+unfoldable pub squareIn : Grid → ℕ → ℕ
+squareIn g t = standing (g .second) (g .width) t
+
+-- the place in the grid of coefficient k of that square; of its coefficients k and k + step, and of l and l + step of the u-th
+unfoldable pub spotIn : Grid → ℕ → ℕ → ℕ
+spotIn g t k = place (squaresAcross g) (squareIn g t) k
+
+abbrev pub spotsIn : Grid → ℕ → ℕ → ℕ → ℕ → ℕ → List ℕ
+spotsIn g t k u l step = spotIn g t k ∷ spotIn g t (k + step) ∷ spotIn g u l ∷ spotIn g u (l + step) ∷ []
 
 -- coefficients 0, and the whole grid
 abbrev zeros : Bool → ℕ → ℕ → List ℤ → List ℤ → List ℤ

@@ -1,11 +1,13 @@
 // The grid of a level as it lies in lent planes: its numbers read and stored by square and coefficient, and by fours.
 ghost use mathlib.Core.Path.{_≡_};
-ghost use Prim.Native.Nat.{_+_, _*_, _/_, _%_, _<_};
+ghost use Prim.Native.Nat.{_+_, _*_, _<_};
 ghost use lib.ListN.{set};
 ghost use Rattle.lifting.specs.Program.{at, get, put};
 ghost use Rattle.operators.specs.Block.{four};
 ghost use Rattle.picture.specs.Level.{cell, strip};
-ghost use Rattle.plane_grid.specs.Held.{squaresAcross, squaresDown, orderIn, zerosIn, numbersIn, fourOf, Sized, ZeroRoom, Room, Inside};
+ghost use Rattle.plane_grid.specs.Held.{squaresAcross, squaresDown, orderIn, squareIn, spotIn, spotsIn, zerosIn, numbersIn, Sized, ZeroRoom, Room, Inside};
+
+pub mod window; // window.rt: windows over four squares, and corners
 
 // Which level, and how many macroblocks across and down.
 // Level one lies in `first` (coefficients 0) and `rest` (1 to 15). At level two the coefficients 0 are level one's numbers,
@@ -39,7 +41,8 @@ pub fn down(grid: Grid) -> usize
 }
 
 // Where square (j, i) stands among the squares of the plane that holds its coefficients 1 to 15.
-fn order(grid: Grid, j: usize, i: usize) -> usize
+// What follows takes that place, t, so that it is found once for all numbers of a square.
+pub fn order(grid: Grid, j: usize, i: usize) -> usize
     requires { ⌜ Sized grid ⌝ }
     requires { ⌜ Inside grid j i ⌝ }
     ensures { λ r. ⌜ r ≡ orderIn grid (j * squaresAcross grid + i) ⌝ }
@@ -51,13 +54,12 @@ fn order(grid: Grid, j: usize, i: usize) -> usize
     j * width + i
 }
 
-// Coefficient 0 of square (j, i).
-fn zero(first: &[i32], low: &[i32], grid: Grid, j: usize, i: usize) -> i32
+// Coefficient 0 of the t-th square.
+fn zero(first: &[i32], low: &[i32], grid: Grid, t: usize) -> i32
     requires { ⌜ ZeroRoom grid (now first) (now low) ⌝ }
-    requires { ⌜ Inside grid j i ⌝ }
-    ensures { λ r. ⌜ r ≡ at (zerosIn grid (now (first .entry)) (now (low .entry))) (j * squaresAcross grid + i) ⌝ }
+    requires { ⌜ t < squaresAcross grid * squaresDown grid ⌝ }
+    ensures { λ r. ⌜ r ≡ at (zerosIn grid (now (first .entry)) (now (low .entry))) (squareIn grid t) ⌝ }
 {
-    let t = order(grid, j, i);
     if grid.second {
         let m = t / 16;
         let k = t % 16;
@@ -69,12 +71,11 @@ fn zero(first: &[i32], low: &[i32], grid: Grid, j: usize, i: usize) -> i32
     first[t]
 }
 
-fn put_zero(first: &mut [i32], low: &mut [i32], grid: Grid, j: usize, i: usize, x: i32)
+fn put_zero(first: &mut [i32], low: &mut [i32], grid: Grid, t: usize, x: i32)
     requires { ⌜ ZeroRoom grid (now first) (now low) ⌝ }
-    requires { ⌜ Inside grid j i ⌝ }
-    ensures { λ r. ⌜ zerosIn grid (now (first .exit)) (now (low .exit)) ≡ set (zerosIn grid (now (first .entry)) (now (low .entry))) (j * squaresAcross grid + i) x ⌝ }
+    requires { ⌜ t < squaresAcross grid * squaresDown grid ⌝ }
+    ensures { λ r. ⌜ zerosIn grid (now (first .exit)) (now (low .exit)) ≡ set (zerosIn grid (now (first .entry)) (now (low .entry))) (squareIn grid t) x ⌝ }
 {
-    let t = order(grid, j, i);
     if grid.second {
         let m = t / 16;
         let k = t % 16;
@@ -88,17 +89,16 @@ fn put_zero(first: &mut [i32], low: &mut [i32], grid: Grid, j: usize, i: usize, 
     first[t] = x;
 }
 
-// Coefficient k of square (j, i).
-fn number(first: &[i32], low: &[i32], rest: &[i32], grid: Grid, j: usize, i: usize, k: usize) -> i32
+// Coefficient k of the t-th square.
+fn number(first: &[i32], low: &[i32], rest: &[i32], grid: Grid, t: usize, k: usize) -> i32
     requires { ⌜ Room grid (now first) (now low) (now rest) ⌝ }
-    requires { ⌜ Inside grid j i ⌝ }
+    requires { ⌜ t < squaresAcross grid * squaresDown grid ⌝ }
     requires { ⌜ k < 16 ⌝ }
-    ensures { λ r. ⌜ r ≡ at (numbersIn grid (now (first .entry)) (now (low .entry)) (now (rest .entry))) (cell (squaresAcross grid) (4 * j + k / 4) (4 * i + k % 4)) ⌝ }
+    ensures { λ r. ⌜ r ≡ at (numbersIn grid (now (first .entry)) (now (low .entry)) (now (rest .entry))) (spotIn grid t k) ⌝ }
 {
     if k == 0 {
-        return zero(first, low, grid, j, i);
+        return zero(first, low, grid, t);
     }
-    let t = order(grid, j, i);
     rest[15 * t + (k - 1)]
 }
 
@@ -107,51 +107,47 @@ fn put_number(
     low: &mut [i32],
     rest: &mut [i32],
     grid: Grid,
-    j: usize,
-    i: usize,
+    t: usize,
     k: usize,
     x: i32,
 )
     requires { ⌜ Room grid (now first) (now low) (now rest) ⌝ }
-    requires { ⌜ Inside grid j i ⌝ }
+    requires { ⌜ t < squaresAcross grid * squaresDown grid ⌝ }
     requires { ⌜ k < 16 ⌝ }
-    ensures { λ r. ⌜ numbersIn grid (now (first .exit)) (now (low .exit)) (now (rest .exit)) ≡ set (numbersIn grid (now (first .entry)) (now (low .entry)) (now (rest .entry))) (cell (squaresAcross grid) (4 * j + k / 4) (4 * i + k % 4)) x ⌝ }
+    ensures { λ r. ⌜ numbersIn grid (now (first .exit)) (now (low .exit)) (now (rest .exit)) ≡ set (numbersIn grid (now (first .entry)) (now (low .entry)) (now (rest .entry))) (spotIn grid t k) x ⌝ }
     ensures { λ r. ⌜ Room grid (now (first .exit)) (now (low .exit)) (now (rest .exit)) ⌝ }
 {
     if k == 0 {
-        put_zero(first, low, grid, j, i, x);
+        put_zero(first, low, grid, t, x);
         return;
     }
-    let t = order(grid, j, i);
     rest[15 * t + (k - 1)] = x;
 }
 
-// Coefficients k and k + step of square (j, i), and l and l + step of square (y, x).
+// Coefficients k and k + step of the t-th square, and l and l + step of the u-th.
 fn numbers(
     first: &[i32],
     low: &[i32],
     rest: &[i32],
     grid: Grid,
-    j: usize,
-    i: usize,
+    t: usize,
     k: usize,
-    y: usize,
-    x: usize,
+    u: usize,
     l: usize,
     step: usize,
 ) -> [i32; 4]
     requires { ⌜ Room grid (now first) (now low) (now rest) ⌝ }
-    requires { ⌜ Inside grid j i ⌝ }
+    requires { ⌜ t < squaresAcross grid * squaresDown grid ⌝ }
     requires { ⌜ k + step < 16 ⌝ }
-    requires { ⌜ Inside grid y x ⌝ }
+    requires { ⌜ u < squaresAcross grid * squaresDown grid ⌝ }
     requires { ⌜ l + step < 16 ⌝ }
-    ensures { λ v. ⌜ four v ≡ get (fourOf (squaresAcross grid) j i k y x l step) (numbersIn grid (now (first .entry)) (now (low .entry)) (now (rest .entry))) ⌝ }
+    ensures { λ v. ⌜ four v ≡ get (spotsIn grid t k u l step) (numbersIn grid (now (first .entry)) (now (low .entry)) (now (rest .entry))) ⌝ }
 {
     [
-        number(first, low, rest, grid, j, i, k),
-        number(first, low, rest, grid, j, i, k + step),
-        number(first, low, rest, grid, y, x, l),
-        number(first, low, rest, grid, y, x, l + step),
+        number(first, low, rest, grid, t, k),
+        number(first, low, rest, grid, t, k + step),
+        number(first, low, rest, grid, u, l),
+        number(first, low, rest, grid, u, l + step),
     ]
 }
 
@@ -160,27 +156,25 @@ fn put_numbers(
     low: &mut [i32],
     rest: &mut [i32],
     grid: Grid,
-    j: usize,
-    i: usize,
+    t: usize,
     k: usize,
-    y: usize,
-    x: usize,
+    u: usize,
     l: usize,
     step: usize,
     v: [i32; 4],
 )
     requires { ⌜ Room grid (now first) (now low) (now rest) ⌝ }
-    requires { ⌜ Inside grid j i ⌝ }
+    requires { ⌜ t < squaresAcross grid * squaresDown grid ⌝ }
     requires { ⌜ k + step < 16 ⌝ }
-    requires { ⌜ Inside grid y x ⌝ }
+    requires { ⌜ u < squaresAcross grid * squaresDown grid ⌝ }
     requires { ⌜ l + step < 16 ⌝ }
-    ensures { λ u. ⌜ numbersIn grid (now (first .exit)) (now (low .exit)) (now (rest .exit)) ≡ put (fourOf (squaresAcross grid) j i k y x l step) (four v) (numbersIn grid (now (first .entry)) (now (low .entry)) (now (rest .entry))) ⌝ }
-    ensures { λ u. ⌜ Room grid (now (first .exit)) (now (low .exit)) (now (rest .exit)) ⌝ }
+    ensures { λ r. ⌜ numbersIn grid (now (first .exit)) (now (low .exit)) (now (rest .exit)) ≡ put (spotsIn grid t k u l step) (four v) (numbersIn grid (now (first .entry)) (now (low .entry)) (now (rest .entry))) ⌝ }
+    ensures { λ r. ⌜ Room grid (now (first .exit)) (now (low .exit)) (now (rest .exit)) ⌝ }
 {
-    put_number(first, low, rest, grid, j, i, k, v[0]);
-    put_number(first, low, rest, grid, j, i, k + step, v[1]);
-    put_number(first, low, rest, grid, y, x, l, v[2]);
-    put_number(first, low, rest, grid, y, x, l + step, v[3]);
+    put_number(first, low, rest, grid, t, k, v[0]);
+    put_number(first, low, rest, grid, t, k + step, v[1]);
+    put_number(first, low, rest, grid, u, l, v[2]);
+    put_number(first, low, rest, grid, u, l + step, v[3]);
 }
 
 // Row r of square (j, i).
@@ -198,7 +192,8 @@ pub fn block_row(
     requires { ⌜ r < 4 ⌝ }
     ensures { λ v. ⌜ four v ≡ get (strip 1 (cell (squaresAcross grid) (4 * j + r) (4 * i))) (numbersIn grid (now (first .entry)) (now (low .entry)) (now (rest .entry))) ⌝ }
 {
-    numbers(first, low, rest, grid, j, i, 4 * r, j, i, 4 * r + 2, 1)
+    let t = order(grid, j, i);
+    numbers(first, low, rest, grid, t, 4 * r, t, 4 * r + 2, 1)
 }
 
 pub fn put_block_row(
@@ -217,7 +212,8 @@ pub fn put_block_row(
     ensures { λ u. ⌜ numbersIn grid (now (first .exit)) (now (low .exit)) (now (rest .exit)) ≡ put (strip 1 (cell (squaresAcross grid) (4 * j + r) (4 * i))) (four v) (numbersIn grid (now (first .entry)) (now (low .entry)) (now (rest .entry))) ⌝ }
     ensures { λ u. ⌜ Room grid (now (first .exit)) (now (low .exit)) (now (rest .exit)) ⌝ }
 {
-    put_numbers(first, low, rest, grid, j, i, 4 * r, j, i, 4 * r + 2, 1, v);
+    let t = order(grid, j, i);
+    put_numbers(first, low, rest, grid, t, 4 * r, t, 4 * r + 2, 1, v);
 }
 
 // Across the edge between the squares (j, i) and (j, i + 1): two numbers of the row r of each.
@@ -235,7 +231,9 @@ pub fn row(
     requires { ⌜ r < 4 ⌝ }
     ensures { λ v. ⌜ four v ≡ get (strip 1 (cell (squaresAcross grid) (4 * j + r) (4 * i + 2))) (numbersIn grid (now (first .entry)) (now (low .entry)) (now (rest .entry))) ⌝ }
 {
-    numbers(first, low, rest, grid, j, i, 4 * r + 2, j, i + 1, 4 * r, 1)
+    let t = order(grid, j, i);
+    let u = order(grid, j, i + 1);
+    numbers(first, low, rest, grid, t, 4 * r + 2, u, 4 * r, 1)
 }
 
 pub fn put_row(
@@ -254,20 +252,9 @@ pub fn put_row(
     ensures { λ u. ⌜ numbersIn grid (now (first .exit)) (now (low .exit)) (now (rest .exit)) ≡ put (strip 1 (cell (squaresAcross grid) (4 * j + r) (4 * i + 2))) (four v) (numbersIn grid (now (first .entry)) (now (low .entry)) (now (rest .entry))) ⌝ }
     ensures { λ u. ⌜ Room grid (now (first .exit)) (now (low .exit)) (now (rest .exit)) ⌝ }
 {
-    put_numbers(
-        first,
-        low,
-        rest,
-        grid,
-        j,
-        i,
-        4 * r + 2,
-        j,
-        i + 1,
-        4 * r,
-        1,
-        v,
-    );
+    let t = order(grid, j, i);
+    let u = order(grid, j, i + 1);
+    put_numbers(first, low, rest, grid, t, 4 * r + 2, u, 4 * r, 1, v);
 }
 
 // Across the edge between the squares (j, i) and (j + 1, i): two numbers of the column c of each.
@@ -285,7 +272,9 @@ pub fn column(
     requires { ⌜ c < 4 ⌝ }
     ensures { λ v. ⌜ four v ≡ get (strip (4 * squaresAcross grid) (cell (squaresAcross grid) (4 * j + 2) (4 * i + c))) (numbersIn grid (now (first .entry)) (now (low .entry)) (now (rest .entry))) ⌝ }
 {
-    numbers(first, low, rest, grid, j, i, 8 + c, j + 1, i, c, 4)
+    let t = order(grid, j, i);
+    let u = order(grid, j + 1, i);
+    numbers(first, low, rest, grid, t, 8 + c, u, c, 4)
 }
 
 pub fn put_column(
@@ -304,5 +293,7 @@ pub fn put_column(
     ensures { λ u. ⌜ numbersIn grid (now (first .exit)) (now (low .exit)) (now (rest .exit)) ≡ put (strip (4 * squaresAcross grid) (cell (squaresAcross grid) (4 * j + 2) (4 * i + c))) (four v) (numbersIn grid (now (first .entry)) (now (low .entry)) (now (rest .entry))) ⌝ }
     ensures { λ u. ⌜ Room grid (now (first .exit)) (now (low .exit)) (now (rest .exit)) ⌝ }
 {
-    put_numbers(first, low, rest, grid, j, i, 8 + c, j + 1, i, c, 4, v);
+    let t = order(grid, j, i);
+    let u = order(grid, j + 1, i);
+    put_numbers(first, low, rest, grid, t, 8 + c, u, c, 4, v);
 }

@@ -1,13 +1,13 @@
--- A use undone is what stands at its places, undone and put back; sixteen numbers go by rows of four. Uses one after another are undone from the last to the first.
+-- A use undone is what stands at its places, undone and put back. Uses one after another are undone from the last to the first.
 use Prim.Native.Nat.{ℕ, zero, suc, _+_, _-_, _*_, _≤_, _<_}
 use mathlib.Core.Path.{_≡_, refl, sym, _∙_, ap, subst}
 use mathlib.Core.Bool.{Bool, true, false}
-use mathlib.Core.List.{List, [], _∷_, _++_}
+use mathlib.Core.List.{List, [], _∷_}
 use native.Mathlib.Omega.{arith}
 use lib.Dec.{T}
 use native.Mathlib.Numerals.{add-one}
 use native.Mathlib.Nat.{mul-le-mul-right, suc-mul}
-use lib.ListN.{length, getD, set, take, length-set}
+use lib.ListN.{length, set, take, length-set}
 use lib.Seq.{take-suc, take-suc-set, take-all}
 use lib.IntN.{ℤ, pos}
 use lib.Signed.{mag}
@@ -16,41 +16,13 @@ use mir.Syntax.{w32}
 use Rattle.lifting.proofs.Bits.{back}
 use Rattle.lifting.specs.Program.{Program, at, Operator, end, apply, get, put, undo, each, _then_}
 use Rattle.lifting.proofs.Compose.{undo-each, undo-then}
-use Rattle.operators.specs.Block.{four, flat}
-use Rattle.picture.specs.Level.{cell, strip, square, cores, squareFilters, filters, level}
+use Rattle.operators.specs.Block.{four}
+use Rattle.picture.specs.Level.{strip, cores, squareFilters, filters, level}
 use Rattle.picture.specs.Planes.{grid, firstGrid, secondGrid}
 use Rattle.picture.proofs.Table.{length-table}
 use Rattle.plane_grid.specs.declared.Grid.{Grid}
 use Rattle.plane_grid.specs.Held.{squaresAcross, squaresDown, numbersOf, numbersIn, Room}
 use Rattle.plane_levels.specs.Edges.{rows, columns}
-
--- ---- four rows of four
-
-pub record RowRead (v : List ℤ) (at : ℕ) (x : List ℤ) : Type 0 where
-  pub is : four x ≡ get (strip 1 at) v
-
-pub row-read : {v : List ℤ} {x : List ℤ} {a b : ℕ} → four x ≡ get (strip 1 a) v → a ≡ b → RowRead v b x
-row-read {v} e q = record { is = e ∙ ap (λ (i : ℕ). get (strip 1 i) v) q }
-
-cat : {x x' y y' z z' w w' : List ℤ} → x ≡ x' → y ≡ y' → z ≡ z' → w ≡ w' → x ++ (y ++ (z ++ w)) ≡ x' ++ (y' ++ (z' ++ w'))
-cat a b c d = rw (a, b, c, d)
-
-pub gathered : (w : ℕ) {v : List ℤ} {i : ℕ} {p q r s : List ℤ} → RowRead v i p → RowRead v (i + w) q → RowRead v (i + w + w) r → RowRead v (i + w + w + w) s
-    → flat (p ∷ q ∷ r ∷ s ∷ []) ≡ get (square w i) v
-unfolding get flat square
-gathered w a b c d = cat (a .is) (b .is) (c .is) (d .is)
-
-pub record RowStored (v w : List ℤ) (at : ℕ) (x : List ℤ) : Type 0 where
-  pub is : w ≡ put (strip 1 at) (four x) v
-
-pub row-stored : {v w x : List ℤ} {a b : ℕ} → w ≡ put (strip 1 a) (four x) v → a ≡ b → RowStored v w b x
-row-stored {v} {x = x} e q = record { is = e ∙ ap (λ (i : ℕ). put (strip 1 i) (four x) v) q }
-
-pub scattered : (w : ℕ) {v v1 v2 v3 v4 : List ℤ} {i : ℕ} (m : List (List ℤ)) → RowStored v v1 i (getD m 0 []) → RowStored v1 v2 (i + w) (getD m 1 [])
-    → RowStored v2 v3 (i + w + w) (getD m 2 []) → RowStored v3 v4 (i + w + w + w) (getD m 3 [])
-    → v4 ≡ put (square w i) (flat m) v
-unfolding put flat square
-scattered w m a b c d = rw (d .is, c .is, b .is, a .is)
 
 -- ---- a use
 

@@ -13,6 +13,8 @@ use plane_grid::put_block_row;
 use plane_grid::put_column;
 use plane_grid::put_row;
 use plane_grid::row;
+use plane_grid::window::put_window;
+use plane_grid::window::window;
 
 // The square (j, i).
 fn block(first: &[i32], low: &[i32], rest: &[i32], grid: Grid, j: usize, i: usize) -> [[i32; 4]; 4]
@@ -46,40 +48,6 @@ fn put_block(
     put_block_row(first, low, rest, grid, j, i, 1, b[1]);
     put_block_row(first, low, rest, grid, j, i, 2, b[2]);
     put_block_row(first, low, rest, grid, j, i, 3, b[3]);
-}
-
-// The window over the corner that the squares (j, i), (j, i + 1), (j + 1, i) and (j + 1, i + 1) share.
-fn window(first: &[i32], low: &[i32], rest: &[i32], grid: Grid, j: usize, i: usize) -> [[i32; 4]; 4]
-    requires { ⌜ Room grid (now first) (now low) (now rest) ⌝ }
-    requires { ⌜ Inside grid (j + 1) (i + 1) ⌝ }
-    ensures { λ b. ⌜ flat b ≡ get (square (4 * squaresAcross grid) (cell (squaresAcross grid) (4 * j + 2) (4 * i + 2))) (numbersIn grid (now (first .entry)) (now (low .entry)) (now (rest .entry))) ⌝ }
-{
-    [
-        row(first, low, rest, grid, j, i, 2),
-        row(first, low, rest, grid, j, i, 3),
-        row(first, low, rest, grid, j + 1, i, 0),
-        row(first, low, rest, grid, j + 1, i, 1),
-    ]
-}
-
-fn put_window(
-    first: &mut [i32],
-    low: &mut [i32],
-    rest: &mut [i32],
-    grid: Grid,
-    j: usize,
-    i: usize,
-    b: [[i32; 4]; 4],
-)
-    requires { ⌜ Room grid (now first) (now low) (now rest) ⌝ }
-    requires { ⌜ Inside grid (j + 1) (i + 1) ⌝ }
-    ensures { λ u. ⌜ numbersIn grid (now (first .exit)) (now (low .exit)) (now (rest .exit)) ≡ put (square (4 * squaresAcross grid) (cell (squaresAcross grid) (4 * j + 2) (4 * i + 2))) (flat b) (numbersIn grid (now (first .entry)) (now (low .entry)) (now (rest .entry))) ⌝ }
-    ensures { λ u. ⌜ Room grid (now (first .exit)) (now (low .exit)) (now (rest .exit)) ⌝ }
-{
-    put_row(first, low, rest, grid, j, i, 2, b[0]);
-    put_row(first, low, rest, grid, j, i, 3, b[1]);
-    put_row(first, low, rest, grid, j + 1, i, 0, b[2]);
-    put_row(first, low, rest, grid, j + 1, i, 1, b[3]);
 }
 
 // Four numbers as they were before the filter of Figure 4.13.

@@ -1,24 +1,29 @@
 -- The four places are the strip's.
 use native.Mathlib.Omega.{arith}
-use mathlib.Core.Path.{_∙_, ap}
-use Rattle.lifting.specs.Program.{get}
-use Rattle.plane_grid.specs.Held.{squaresAcross, numbersIn, Inside}
-use Rattle.plane_grid.proofs.Held.{across-small, down-small}
-use Rattle.plane_grid.proofs.Fours.{column-places}
+use borrow.Author.Needs.{needs}
+use Prim.Native.Nat.{_+_}
+use Rattle.plane_grid.specs.Held.{squaresAcross}
+use Rattle.plane_grid.proofs.Fours.{Pair, inside-small, pair-down, asked, read-at, column-places}
 use Rattle.plane_grid.proofs.column.Statement.{statement}
 use Rattle.plane_grid.proofs.column.Tie as tie
 
-above : (c : tie.Start) → Inside (c .args .grid) (c .args .j) (c .args .i)
-above c = record { below = omega (arith, c .pre .1 .0 .below); beside = c .pre .1 .0 .beside }
+pair : (c : tie.After-order2) → let a = c .before .before .args in Pair (a .grid) (a .j) (a .i) (c .before .order .result) (a .j + 1) (a .i) (c .order2 .result)
+pair c = let s = c .before .before in pair-down (s .pre .0) (s .pre .1 .0) (c .before .order .ensures) (c .order2 .ensures)
+
+small : tie.Need-add-order
+small c = let s = c .before in omega (arith, inside-small (s .pre .0) (s .pre .1 .0))
 
 returns : tie.Need-returns
 returns c =
-    let s = c .before in
+    let o = c .before in
+    let s = o .before .before in
     let a = s .args in
-    c .numbers .ensures ∙ ap (λ ps. get ps (numbersIn (a .grid) (a .first .now) (a .low .now) (a .rest .now))) (column-places (squaresAcross (a .grid)) (a .j) (a .i) (a .c) (s .pre .1 .1))
+    read-at (pair o) _ _ _ (column-places (squaresAcross (a .grid)) (a .j) (a .i) (a .c) (s .pre .1 .1)) _ _ (c .numbers .ensures)
+
+asks : tie.Need-numbers-requires
+asks c κs = let s = c .before .before in asked (s .pre .0) (pair c) (omega (arith, s .pre .1 .1)) (omega (arith, s .pre .1 .1))
 
 pub column-spec : {M : Type 1} → statement M
 column-spec =
     tie.close
-    (tie.spec (λ c. omega (arith, c .pre .1 .1)) (λ c. omega (arith, c .pre .1 .0 .below, down-small (c .args .grid) (c .pre .0 .of-zeros .sized)))
-    (λ s κs. (s .pre .0, (above s, (omega (arith, s .pre .1 .1), (s .pre .1 .0, omega (arith, s .pre .1 .1)))))) returns)
+    (tie.spec (λ c κs. search needs) small (λ c κs. search needs) (λ c. search needs) asks returns)

@@ -1,23 +1,31 @@
 -- The four places are the strip's.
 use native.Mathlib.Omega.{arith}
-use mathlib.Core.Path.{_∙_, ap}
-use Rattle.lifting.specs.Program.{put}
-use Rattle.operators.specs.Block.{four}
-use Rattle.plane_grid.specs.Held.{squaresAcross, numbersIn, Inside}
-use Rattle.plane_grid.proofs.Held.{across-small, down-small}
-use Rattle.plane_grid.proofs.Fours.{block-row-places}
+use borrow.Author.Needs.{needs}
+use Rattle.plane_grid.specs.Held.{squaresAcross}
+use Rattle.plane_grid.proofs.Fours.{Pair, ordered, asked, stored-at, block-row-places}
 use Rattle.plane_grid.proofs.put_block_row.Statement.{statement}
 use Rattle.plane_grid.proofs.put_block_row.Tie as tie
+
+pair : (c : tie.After-order) → let a = c .before .args in Pair (a .grid) (a .j) (a .i) (c .order .result) (a .j) (a .i) (c .order .result)
+pair c =
+    let s = c .before in
+    let o = ordered (s .pre .0) (s .pre .1 .0) (c .order .ensures) in
+    record { one = o; other = o }
 
 returns : tie.Need-returns
 returns c =
     let d = c .before .before .before in
-    let s = d .before .before .before .before in
-    let a = s .args in
-    (d .put-numbers .ensures .0 ∙ ap (λ ps. put ps (four (a .v)) (numbersIn (a .grid) (a .first .now) (a .low .now) (a .rest .now))) (block-row-places (squaresAcross (a .grid)) (a .j) (a .i) (a .r)), d .put-numbers .ensures .1)
+    let o = d .before .before .before .before in
+    let a = o .before .args in
+    (stored-at (pair o) _ _ _ (block-row-places (squaresAcross (a .grid)) (a .j) (a .i) (a .r)) _ _ _ (d .put-numbers .ensures .0), d .put-numbers .ensures .1)
+
+asks : tie.Need-put-numbers-requires
+asks c κs =
+    let o = c .before .before .before in
+    let s = o .before in
+    asked (s .pre .0) (pair o) (omega (arith, s .pre .1 .1)) (omega (arith, s .pre .1 .1))
 
 pub put-block-row-spec : {M : Type 1} → statement M
 put-block-row-spec =
     tie.close
-    (tie.spec (λ c. let s = c .before .before .before in omega (arith, s .pre .1 .1)) (λ c. let s = c .before .before .before in omega (arith, s .pre .1 .1)) (λ c. let s = c .before .before .before in omega (arith, s .pre .1 .1))
-    (λ c κs. let s = c .before .before .before in (s .pre .0, (s .pre .1 .0, (omega (arith, s .pre .1 .1), (s .pre .1 .0, omega (arith, s .pre .1 .1)))))) (λ c. c .before .before .before .put-numbers .kept .0) (λ c. c .before .before .before .put-numbers .kept .1 .0) (λ c. c .before .before .before .put-numbers .kept .1 .1 .0) returns)
+    (tie.spec (λ c κs. search needs) (λ c. search needs) (λ c. search needs) (λ c. search needs) asks (λ c. c .before .before .before .put-numbers .kept .0) (λ c. c .before .before .before .put-numbers .kept .1 .0) (λ c. c .before .before .before .put-numbers .kept .1 .1 .0) returns)

@@ -1,26 +1,33 @@
 -- The four places are the strip's.
 use native.Mathlib.Omega.{arith}
-use mathlib.Core.Path.{_∙_, ap}
-use Rattle.lifting.specs.Program.{put}
-use Rattle.operators.specs.Block.{four}
-use Rattle.plane_grid.specs.Held.{squaresAcross, numbersIn, Inside}
-use Rattle.plane_grid.proofs.Held.{across-small, down-small}
-use Rattle.plane_grid.proofs.Fours.{row-places}
+use borrow.Author.Needs.{needs}
+use Prim.Native.Nat.{_+_}
+use Rattle.plane_grid.specs.Held.{squaresAcross}
+use Rattle.plane_grid.proofs.Fours.{Pair, inside-small, pair-across, asked, stored-at, row-places}
 use Rattle.plane_grid.proofs.put_row.Statement.{statement}
 use Rattle.plane_grid.proofs.put_row.Tie as tie
 
-left : (c : tie.Start) → Inside (c .args .grid) (c .args .j) (c .args .i)
-left c = record { below = c .pre .1 .0 .below; beside = omega (arith, c .pre .1 .0 .beside) }
+pair : (c : tie.After-order2) → let a = c .before .before .args in Pair (a .grid) (a .j) (a .i) (c .before .order .result) (a .j) (a .i + 1) (c .order2 .result)
+pair c = let s = c .before .before in pair-across (s .pre .0) (s .pre .1 .0) (c .before .order .ensures) (c .order2 .ensures)
+
+small : tie.Need-add-order
+small c = let s = c .before in omega (arith, inside-small (s .pre .0) (s .pre .1 .0))
 
 returns : tie.Need-returns
 returns c =
     let d = c .before .before .before in
-    let s = d .before .before .before .before in
+    let o = d .before .before .before .before in
+    let s = o .before .before in
     let a = s .args in
-    (d .put-numbers .ensures .0 ∙ ap (λ ps. put ps (four (a .v)) (numbersIn (a .grid) (a .first .now) (a .low .now) (a .rest .now))) (row-places (squaresAcross (a .grid)) (a .j) (a .i) (a .r)), d .put-numbers .ensures .1)
+    (stored-at (pair o) _ _ _ (row-places (squaresAcross (a .grid)) (a .j) (a .i) (a .r)) _ _ _ (d .put-numbers .ensures .0), d .put-numbers .ensures .1)
+
+asks : tie.Need-put-numbers-requires
+asks c κs =
+    let o = c .before .before .before in
+    let s = o .before .before in
+    asked (s .pre .0) (pair o) (omega (arith, s .pre .1 .1)) (omega (arith, s .pre .1 .1))
 
 pub put-row-spec : {M : Type 1} → statement M
 put-row-spec =
     tie.close
-    (tie.spec (λ c. let s = c .before .before .before in omega (arith, s .pre .1 .1)) (λ c. let s = c .before .before .before in omega (arith, s .pre .1 .1)) (λ c. let s = c .before .before .before in omega (arith, s .pre .1 .0 .beside, across-small (s .args .grid) (s .pre .0 .of-zeros .sized))) (λ c. let s = c .before .before .before in omega (arith, s .pre .1 .1))
-    (λ c κs. let s = c .before .before .before in (s .pre .0, (left s, (omega (arith, s .pre .1 .1), (s .pre .1 .0, omega (arith, s .pre .1 .1)))))) (λ c. c .before .before .before .put-numbers .kept .0) (λ c. c .before .before .before .put-numbers .kept .1 .0) (λ c. c .before .before .before .put-numbers .kept .1 .1 .0) returns)
+    (tie.spec (λ c κs. search needs) small (λ c κs. search needs) (λ c. search needs) (λ c. search needs) (λ c. search needs) asks (λ c. c .before .before .before .put-numbers .kept .0) (λ c. c .before .before .before .put-numbers .kept .1 .0) (λ c. c .before .before .before .put-numbers .kept .1 .1 .0) returns)

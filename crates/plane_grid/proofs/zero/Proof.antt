@@ -1,18 +1,15 @@
 -- The square's place in the order of squares says which cell holds its coefficient 0.
-use Prim.Native.Nat.{_+_, _*_}
 use mathlib.Core.Path.{_∙_}
 use native.Mathlib.Omega.{arith}
 use borrow.Author.Needs.{needs}
 use Rattle.lifting.proofs.Bits.{back}
-use Rattle.plane_grid.specs.Held.{squaresAcross}
-use Rattle.plane_grid.proofs.Held.{Square, inside, placed, plain, read-first, read-low, read-plain}
+use Rattle.plane_grid.specs.Held.{squareIn}
+use Rattle.plane_grid.proofs.Held.{Square, square-at, placed, plain, read-first, read-low, read-plain}
 use Rattle.plane_grid.proofs.zero.Statement.{statement}
 use Rattle.plane_grid.proofs.zero.Tie as tie
 
-square : (c : tie.After-order) → let a = c .before .args in Square (a .grid) (a .first .now) (a .low .now) (a .j * squaresAcross (a .grid) + a .i) (c .order .result)
-square c =
-    let s = c .before in
-    record { room = s .pre .0; inside = inside (s .args .grid) (s .pre .0 .sized) (s .args .j) (s .args .i) (s .pre .1); ordered = c .order .ensures }
+square : (c : tie.Start) → let a = c .args in Square (a .grid) (a .first .now) (a .low .now) (squareIn (a .grid) (a .t)) (a .t)
+square c = square-at (c .args .grid) (c .pre .0) (c .pre .1)
 
 copy-first : tie.Need-shared-slice-copy-out-result
 copy-first c = let o = c .before .before in omega (arith, placed _ (square o) (c .before .if1 .taken))
@@ -41,4 +38,4 @@ returns-3 c = let d = c .before in back (c .result3 .given) ∙ read-plain _ (sq
 pub zero-spec : {M : Type 1} → statement M
 zero-spec =
     tie.close
-    (tie.spec (λ c κs. search needs) (λ c. search needs) copy-first returns (λ c. search needs) (λ c. search needs) (λ c. search needs) scale-low copy-low returns-2 scale-plain copy-plain returns-3)
+    (tie.spec (λ c. search needs) copy-first returns (λ c. search needs) (λ c. search needs) (λ c. search needs) scale-low copy-low returns-2 scale-plain copy-plain returns-3)

@@ -1,11 +1,8 @@
 -- Four rows of four, each at its place.
 use native.Mathlib.Omega.{arith}
-use mathlib.Core.Path.{_∙_, refl}
-use borrow.Author.Needs.{needs}
-use Prim.Native.Nat.{_+_, _*_}
-use Rattle.plane_grid.specs.Held.{squaresAcross, Inside}
-use Rattle.plane_grid.proofs.Held.{across-small, down-small}
-use Rattle.plane_levels.proofs.Uses.{row-read, gathered}
+use Prim.Native.Nat.{_*_}
+use Rattle.plane_grid.specs.Held.{squaresAcross}
+use Rattle.plane_grid.proofs.Rows.{row-read, gathered}
 use Rattle.plane_levels.proofs.windows.block.Statement.{statement}
 use Rattle.plane_levels.proofs.windows.block.Tie as tie
 

@@ -1,11 +1,10 @@
 -- Four rows of four, each stored at its place.
 use native.Mathlib.Omega.{arith}
-use mathlib.Core.Path.{_∙_, refl}
+use mathlib.Core.Path.{_∙_}
 use borrow.Author.Needs.{needs}
-use Prim.Native.Nat.{_+_, _*_}
-use Rattle.plane_grid.specs.Held.{squaresAcross, Inside}
-use Rattle.plane_grid.proofs.Held.{across-small, down-small}
-use Rattle.plane_levels.proofs.Uses.{row-stored, scattered}
+use Prim.Native.Nat.{_*_}
+use Rattle.plane_grid.specs.Held.{squaresAcross}
+use Rattle.plane_grid.proofs.Rows.{row-stored, scattered}
 use Rattle.plane_levels.proofs.windows.put_block.Statement.{statement}
 use Rattle.plane_levels.proofs.windows.put_block.Tie as tie
 
