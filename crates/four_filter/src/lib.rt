@@ -2,6 +2,7 @@
 ghost use mathlib.Core.Path.{_≡_};
 ghost use mathlib.Core.List.{[], _∷_};
 ghost use Rattle.lifting.specs.Program.{run, undo};
+ghost use Rattle.operators.specs.Block.{four};
 ghost use Rattle.operators.specs.Figures.{fourFilter as fourFilterLines};
 ghost use Rattle.operators.specs.Pieces.{fourRotation, pairScale};
 use lifting::add;
@@ -93,4 +94,16 @@ pub fn undo_four_filter(a: i32, b: i32, c: i32, d: i32) -> Four
     let outer = undo_pair_scale(a, d);
     let inner = undo_pair_scale(b, c);
     undo_four_rotation(outer.a, inner.a, inner.b, outer.b)
+}
+
+// Figure 4.13 undone on an array of four numbers
+pub fn unfiltered(v: [i32; 4]) -> [i32; 4]
+    ensures { λ r. ⌜ four r ≡ undo fourFilterLines (four v) ⌝ }
+{
+    let f = undo_four_filter(v[0], v[1], v[2], v[3]);
+    let a = f.a;
+    let b = f.b;
+    let c = f.c;
+    let d = f.d;
+    [a, b, c, d]
 }

@@ -1,5 +1,5 @@
 // From planes to samples: the inverse transform, and its quarter view.
-mod planes; // planes.rt: coefficient planes into the grids of the two levels
+mod planes; // planes.rt: coefficient planes into the grids of the two levels, and the core transforms of level two
 
 ghost use mathlib.Core.Path.{_≡_};
 ghost use Prim.Native.Nat.{_*_, _<_, _≤_};
@@ -10,7 +10,8 @@ ghost use Rattle.picture.specs.Numbers.{settled, inverseNumber, quarterNumber};
 ghost use Rattle.picture.specs.Planes.{firstGrid, secondGrid};
 ghost use Rattle.picture.specs.Transform.{inverse as samplesOf, quarter};
 use crate::planes::first_grid;
-use crate::planes::second_grid;
+use crate::planes::second_cores;
+use levels::level::filters_if;
 use levels::level::level;
 use picture::mode::Mode;
 use picture::mode::ModeAnswer;
@@ -47,8 +48,8 @@ fn both_levels(
 {
     let front = 16 * (p * q);
     first_level(&mut samples[..front], mode.first, p, q, dc, low);
-    second_grid(samples, p, q, high);
-    level(samples, mode.second, 4 * p, 4 * q);
+    second_cores(samples, p, q, high);
+    filters_if(samples, mode.second, 4 * p, 4 * q);
 }
 
 pub fn quarter_view(mode: u32, size: Size, dc: &[i32], low: &[i32], view: &mut [i32]) -> u32

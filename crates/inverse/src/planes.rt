@@ -1,10 +1,12 @@
-// Coefficient planes into the grids of the two levels.
+// Coefficient planes into the grids of the two levels, and the core transforms of level two.
 ghost use mathlib.Core.Path.{_≡_};
 ghost use Prim.Native.Nat.{_+_, _*_, _/_, _%_, _<_, _≤_};
 ghost use lib.ListN.{length, take};
-ghost use Rattle.lifting.specs.Program.{put, at as number};
-ghost use Rattle.picture.specs.Level.{cell, square};
+ghost use Rattle.lifting.specs.Program.{run, put, at as number};
+ghost use Rattle.picture.specs.Level.{cell, square, cores};
 ghost use Rattle.picture.specs.Planes.{table, coefficients, blockOrder, firstGrid, secondGrid};
+ghost use Rattle.inverse.specs.Filled.{Filled, blockNumbers};
+use levels::level::cores_across;
 use levels::square::get_four;
 use levels::square::put_square;
 
@@ -49,24 +51,33 @@ fn put_block(grid: &mut [i32], p: usize, b: usize, r: usize, c: usize, high: &[i
     put_coefficients(grid, w, 4 * r * w + 4 * c, first, high, 15 * order);
 }
 
-// Level two, in place: the numbers that level one left stand at the front, and go with the high-pass numbers to their blocks' squares.
-// From the last block to the first, no number is overwritten before it is read.
-pub fn second_grid(grid: &mut [i32], p: usize, q: usize, high: &[i32])
+// Row r of the blocks, from the last to the first: in the topmost row, a block's square covers numbers of blocks before it.
+fn fill_row(grid: &mut [i32], p: usize, r: usize, high: &[i32])
+    requires { ⌜ (0 < p) × (p ≤ 525) × (r < 1652) ⌝ }
+    requires { ⌜ 64 * (r * p + p) ≤ length (now grid) ⌝ }
+    requires { ⌜ 240 * (r / 4 * p + p) ≤ length (now high) ⌝ }
+    ensures { λ o. ⌜ Filled (4 * p) (blockNumbers p (now (grid .entry)) (now (high .entry))) (now (grid .entry)) (r * (4 * p)) (r * (4 * p) + 4 * p) (now (grid .exit)) ⌝ }
+{
+    let first = r * (4 * p);
+    let mut c = 4 * p;
+    while 0 < c {
+        c -= 1;
+        put_block(grid, p, first + c, r, c, high);
+    }
+}
+
+// Level two up to its core transforms, in place: the numbers that level one left stand at the front, and go with the high-pass numbers to their blocks' squares.
+// From the last row to the first, no number is overwritten before it is read. Each row is transformed as soon as it is filled, while it is in the cache.
+pub fn second_cores(grid: &mut [i32], p: usize, q: usize, high: &[i32])
     requires { ⌜ (0 < p) × (p ≤ 525) × (q ≤ 413) ⌝ }
     requires { ⌜ length (now grid) ≡ 256 * (p * q) ⌝ }
     requires { ⌜ length (now high) ≡ 240 * (p * q) ⌝ }
-    ensures { λ r. ⌜ now (grid .exit) ≡ secondGrid p q (take (16 * (p * q)) (now (grid .entry))) (now (high .entry)) ⌝ }
+    ensures { λ o. ⌜ now (grid .exit) ≡ run (cores (4 * p) (4 * q)) (secondGrid p q (take (16 * (p * q)) (now (grid .entry))) (now (high .entry))) ⌝ }
 {
-    let mut b = 16 * (p * q);
     let mut r = 4 * q;
-    let mut c = 0;
-    while 0 < b {
-        if c == 0 {
-            r -= 1;
-            c = 4 * p;
-        }
-        c -= 1;
-        b -= 1;
-        put_block(grid, p, b, r, c, high);
+    while 0 < r {
+        r -= 1;
+        fill_row(grid, p, r, high);
+        cores_across(grid, 4 * p, r);
     }
 }

@@ -3,10 +3,10 @@ use Prim.Native.Nat.{ℕ, zero, suc, _+_, _*_, _<_, _≤_}
 use mathlib.Core.Path.{_≡_, refl, ap, ap₂}
 use mathlib.Core.List.{List}
 use native.Mathlib.Numerals.{add-one}
-use native.Mathlib.Nat.{mul-le-mul-right, suc-mul}
+use native.Mathlib.Nat.{mul-le-mul, mul-le-mul-right, suc-mul}
 use native.Mathlib.Omega.{arith}
 use lib.IntN.{ℤ}
-use Rattle.lifting.specs.Program.{Program, end, run, each, _then_}
+use Rattle.lifting.specs.Program.{Program, run, each, _then_}
 use Rattle.lifting.proofs.Compose.{run-then, run-each}
 
 pub each-none : (f : ℕ → Program) (v : List ℤ) → v ≡ run (each 0 f) v
@@ -25,12 +25,12 @@ each-same (suc n) f g h = ap₂ _then_ (each-same n f g (λ k l. h k (omega arit
 pub next-turn : (j q n : ℕ) → j < q → j * n + n ≤ q * n
 next-turn j q n h = rw (← suc-mul j n) (mul-le-mul-right n h)
 
+-- a grid has at most 2100 * 1652 squares
+pub few-squares : (j p : ℕ) → j ≤ 1652 → p ≤ 2100 → j * p ≤ 3469200
+few-squares j p h k = mul-le-mul h k
+
 pub each-like : (n : ℕ) (f g : ℕ → Program) (v : List ℤ) {u : List ℤ} → u ≡ run (each n f) v → ((k : ℕ) → k < n → f k ≡ g k) → u ≡ run (each n g) v
 each-like n f g v e h = rw (each-same n f g h) at e
 
 pub then-more : (p q : Program) (v : List ℤ) {w u : List ℤ} → w ≡ run p v → u ≡ run q w → u ≡ run (p then q) v
 then-more p q v a b = rw (run-then p q, ← a) b
-
-pub then-end : (p : Program) (v : List ℤ) {u : List ℤ} → u ≡ run p v → u ≡ run (p then end) v
-unfolding run
-then-end p v a = then-more p end v a refl

@@ -1,15 +1,20 @@
 -- Four places in a line, and squares, of a grid: what each read, store or call says, rewritten one after the other.
 use Prim.Native.Nat.{ℕ, _+_, _<_}
-use mathlib.Core.Path.{_≡_, refl}
+use mathlib.Core.Path.{_≡_, refl, _∙_, ap}
 use mathlib.Core.List.{List, [], _∷_, _++_}
+use native.Mathlib.Omega.{arith}
 use lib.ListN.{getD, set}
 use lib.IntN.{ℤ}
 use lib.Signed.{mag}
+use mir.Syntax.{w32}
+use mir.Val.{SFits}
+use mir.ValLaws.{toZ-ofZ}
 use Rattle.lifting.specs.Program.{Program, Operator, end, apply, at, get, put, run}
 use Rattle.lifting.proofs.Bits.{back}
 use Rattle.operators.specs.Block.{four, flat}
 use Rattle.operators.proofs.Parts.{kept}
 use Rattle.picture.specs.Level.{strip, square}
+use Rattle.picture.specs.Planes.{table, coefficients}
 
 pub four-read : (v : List ℤ) (i j k l : ℕ) → mag (at v i) < 2147483648 → mag (at v j) < 2147483648 → mag (at v k) < 2147483648 → mag (at v l) < 2147483648
     → kept (at v i) ∷ kept (at v j) ∷ kept (at v k) ∷ kept (at v l) ∷ [] ≡ get (i ∷ j ∷ k ∷ l ∷ []) v
@@ -29,6 +34,28 @@ pub square-read : (v : List ℤ) (w i : ℕ) (p q r s : List ℤ)
     → flat (p ∷ q ∷ r ∷ s ∷ []) ≡ get (square w i) v
 unfolding get flat square
 square-read v w i p q r s a b c d = rows a b c d
+
+-- the same, where coefficient 0 is x and coefficients 1 to 15 stand one after another from place i of a list
+fours-same : (v : List ℤ) {a b c d a' b' c' d' : ℕ} → a ≡ a' → b ≡ b' → c ≡ c' → d ≡ d'
+    → at v a ∷ at v b ∷ at v c ∷ at v d ∷ [] ≡ at v a' ∷ at v b' ∷ at v c' ∷ at v d' ∷ []
+fours-same v a b c d = rw (a, b, c, d)
+
+pub square-rows : (x : ℤ) (v : List ℤ) (i : ℕ) (second third fourth : List ℤ)
+    → SFits w32 x → mag (at v i) < 2147483648 → mag (at v (i + 1)) < 2147483648 → mag (at v (i + 2)) < 2147483648
+    → four second ≡ get (strip 1 (i + 3)) v → four third ≡ get (strip 1 (i + 7)) v → four fourth ≡ get (strip 1 (i + 11)) v
+    → flat ((kept x ∷ kept (at v i) ∷ kept (at v (i + 1)) ∷ kept (at v (i + 2)) ∷ []) ∷ second ∷ third ∷ fourth ∷ []) ≡ table 16 (coefficients x (λ k. at v (i + k)))
+unfolding flat get table
+square-rows x v i second third fourth f g h l b c d =
+    rows top
+    (b ∙ fours-same v refl (omega arith) (omega arith) (omega arith))
+    (c ∙ fours-same v refl (omega arith) (omega arith) (omega arith))
+    (d ∙ fours-same v refl (omega arith) (omega arith) (omega arith))
+  where
+    zero-more : (n : ℕ) → n ≡ n + 0
+    zero-more n = omega arith
+
+    top : kept x ∷ kept (at v i) ∷ kept (at v (i + 1)) ∷ kept (at v (i + 2)) ∷ [] ≡ x ∷ at v (i + 0) ∷ at v (i + 1) ∷ at v (i + 2) ∷ []
+    top = rw (toZ-ofZ w32 x f, back g, back h, back l) (ap (λ n. x ∷ at v n ∷ at v (i + 1) ∷ at v (i + 2) ∷ []) (zero-more i))
 
 pub square-stored : (v : List ℤ) (w i : ℕ) (m : List (List ℤ)) {v1 v2 v3 v4 : List ℤ}
     → v1 ≡ put (strip 1 i) (four (getD m 0 [])) v → v2 ≡ put (strip 1 (i + w)) (four (getD m 1 [])) v1

@@ -4,7 +4,7 @@ ghost use mathlib.Core.Bool.{Bool};
 ghost use Prim.Native.Nat.{ℕ, _+_, _-_, _*_, _<_, _≤_};
 ghost use lib.ListN.{length};
 ghost use Rattle.lifting.specs.Program.{run, each, _then_};
-ghost use Rattle.picture.specs.Level.{coreAt, squareFilterAt, fourFilterAt, cores as coreProgram, squareFilters, rowFilters, columnFilters, filters as filterProgram, level as levelProgram};
+ghost use Rattle.picture.specs.Level.{cell, coreAt, squareFilterAt, fourFilterAt, cores as coreProgram, squareFilters, rowFilters, columnFilters, filters as filterProgram, filtersIf, level as levelProgram};
 use crate::square::get_four;
 use crate::square::get_square;
 use crate::square::put_four;
@@ -42,21 +42,34 @@ fn four_filter_at(grid: &mut [i32], step: usize, at: usize)
 
 // ---- n uses in a line
 
-fn cores_across(grid: &mut [i32], w: usize, first: usize, n: usize)
-    requires { ⌜ first + 4 * n + w + w + w ≤ length (now grid) ⌝ }
-    ensures { λ r. ⌜ now (grid .exit) ≡ run (each n (λ i. coreAt w (first + 4 * i))) (now (grid .entry)) ⌝ }
+// In this loop and the next the remainders change nothing: by them the compiler knows that no address wraps, and makes vectors of short rows too.
+
+// The squares of row j.
+pub fn cores_across(grid: &mut [i32], p: usize, j: usize)
+    requires { ⌜ 16 * (j * p + p) ≤ length (now grid) ⌝ }
+    requires { ⌜ (p ≤ 2100) × (j < 1652) ⌝ }
+    ensures { λ r. ⌜ now (grid .exit) ≡ run (each p (λ i. coreAt (4 * p) (cell p (4 * j) (4 * i)))) (now (grid .entry)) ⌝ }
 {
-    for i in 0..n {
+    let squares = p % 4096;
+    let w = 4 * squares;
+    let first = 4 * (j % 2048) * w;
+    for i in 0..squares {
         core_at(grid, w, first + 4 * i);
     }
 }
 
-fn square_filters_across(grid: &mut [i32], w: usize, first: usize, n: usize)
-    requires { ⌜ first + (4 * n + 2) + w + w + w ≤ length (now grid) ⌝ }
-    ensures { λ r. ⌜ now (grid .exit) ≡ run (each n (λ i. squareFilterAt w (first + (4 * i + 2)))) (now (grid .entry)) ⌝ }
+// The windows between the squares of row j and of row j + 1.
+fn square_filters_across(grid: &mut [i32], p: usize, j: usize)
+    requires { ⌜ 16 * (j * p + p + p) ≤ length (now grid) ⌝ }
+    requires { ⌜ (0 < p) × (p ≤ 2100) × (j < 1652) ⌝ }
+    ensures { λ r. ⌜ now (grid .exit) ≡ run (each (p - 1) (λ i. squareFilterAt (4 * p) (cell p (4 * j + 2) (4 * i + 2)))) (now (grid .entry)) ⌝ }
 {
-    for i in 0..n {
-        square_filter_at(grid, w, first + (4 * i + 2));
+    let squares = p % 4096;
+    let w = 4 * squares;
+    let first = (4 * (j % 2048) + 2) * w + 2;
+    let windows = squares - 1;
+    for i in 0..windows {
+        square_filter_at(grid, w, first + 4 * i);
     }
 }
 
@@ -76,9 +89,8 @@ fn cores(grid: &mut [i32], p: usize, q: usize)
     requires { ⌜ (p ≤ 2100) × (q ≤ 1652) ⌝ }
     ensures { λ r. ⌜ now (grid .exit) ≡ run (coreProgram p q) (now (grid .entry)) ⌝ }
 {
-    let w = 4 * p;
     for j in 0..q {
-        cores_across(grid, w, 4 * j * w, p);
+        cores_across(grid, p, j);
     }
 }
 
@@ -87,11 +99,9 @@ fn square_filters(grid: &mut [i32], p: usize, q: usize)
     requires { ⌜ (0 < p) × (p ≤ 2100) × (0 < q) × (q ≤ 1652) ⌝ }
     ensures { λ r. ⌜ now (grid .exit) ≡ run (squareFilters p q) (now (grid .entry)) ⌝ }
 {
-    let w = 4 * p;
-    let across = p - 1;
     let down = q - 1;
     for j in 0..down {
-        square_filters_across(grid, w, (4 * j + 2) * w, across);
+        square_filters_across(grid, p, j);
     }
 }
 
@@ -136,13 +146,21 @@ fn filters(grid: &mut [i32], p: usize, q: usize)
     edge_columns(grid, p, q);
 }
 
+pub fn filters_if(grid: &mut [i32], filtered: bool, p: usize, q: usize)
+    requires { ⌜ 16 * (p * q) ≤ length (now grid) ⌝ }
+    requires { ⌜ (0 < p) × (p ≤ 2100) × (0 < q) × (q ≤ 1652) ⌝ }
+    ensures { λ r. ⌜ now (grid .exit) ≡ run (filtersIf filtered p q) (now (grid .entry)) ⌝ }
+{
+    if filtered {
+        filters(grid, p, q);
+    }
+}
+
 pub fn level(grid: &mut [i32], filtered: bool, p: usize, q: usize)
     requires { ⌜ 16 * (p * q) ≤ length (now grid) ⌝ }
     requires { ⌜ (0 < p) × (p ≤ 2100) × (0 < q) × (q ≤ 1652) ⌝ }
     ensures { λ r. ⌜ now (grid .exit) ≡ run (levelProgram filtered p q) (now (grid .entry)) ⌝ }
 {
     cores(grid, p, q);
-    if filtered {
-        filters(grid, p, q);
-    }
+    filters_if(grid, filtered, p, q);
 }

@@ -42,7 +42,7 @@ all-square P w i h k l m =
     all-append P (strip 1 i) (strip 1 (i + w) ++ third ++ fourth) h (all-append P (strip 1 (i + w)) (third ++ fourth) k (all-append P third fourth l m))
 
 module _ (d p a b : ℕ) where
-  in-cell : (r c : ℕ) {i : ℕ} → i ≡ cell p r c → c < 4 * p → zone d r ≡ a → zone d c ≡ b → InCell d p a b i
+  pub in-cell : (r c : ℕ) {i : ℕ} → i ≡ cell p r c → c < 4 * p → zone d r ≡ a → zone d c ≡ b → InCell d p a b i
   in-cell r c e h f g = record { row = rw (e, digits-div r h) f; column = rw (e, digits-mod r h) g }
 
   down : (r c i : ℕ) → i ≡ cell p r c → i + 4 * p ≡ cell p (r + 1) c

@@ -30,6 +30,10 @@ module _ {p : ℕ} (wide : 0 < p) (q : ℕ) where
       table-is (16 * (p * q)) _ g h
       (λ i l. e (squareOf p i) (coefficientOf p i) (square-low wide q i l) (coefficient-low p i) ∙ ap (at g) (place-of-square wide i))
 
+pub length-grid : (p q : ℕ) (f : ℕ → ℕ → ℤ) → length (grid p q f) ≡ 16 * (p * q)
+unfolding grid
+length-grid p q f = length-table (16 * (p * q)) _
+
 pub at-place : (p q : ℕ) (f : ℕ → ℕ → ℤ) (i : ℕ) → i < 16 * (p * q) → at (grid p q f) i ≡ f (squareOf p i) (coefficientOf p i)
 unfolding grid
 at-place p q f i h = at-table (16 * (p * q)) _ i h

@@ -17,7 +17,7 @@ use Rattle.picture.proofs.Stages.{OfCores, OfFilters, of-cores, of-filt
 
 -- ---- places that rise, the first not below m and the last below n
 
-abbrev Rising : ℕ → ℕ → List ℕ → Type 0
+abbrev pub Rising : ℕ → ℕ → List ℕ → Type 0
 Rising m n [] = m ≤ n
 Rising m n (p ∷ ps) = (m ≤ p) × Rising (suc p) n ps
 
@@ -30,7 +30,7 @@ rising-not-in i m n [] l h = tt
 rising-not-in i m n (p ∷ ps) l h =
     yes-and (not (eqb i p)) _ (not-T (eqb i p) (λ t. omega (arith, eqb→eq i p t))) (rising-not-in i (suc p) n ps (omega arith) (h .1))
 
-rising-places : (m n : ℕ) (ps : List ℕ) → Rising m n ps → T (places n ps)
+pub rising-places : (m n : ℕ) (ps : List ℕ) → Rising m n ps → T (places n ps)
 rising-places m n [] h = tt
 rising-places m n (p ∷ ps) h =
     yes-and (ltb p n) _ (lt→ltb p n (rising-end (suc p) n ps (h .1)))
@@ -54,7 +54,7 @@ strip-places step at n h l = rising-places at n (strip step at) (strip-rising st
 row-rising : (at next n : ℕ) (ps : List ℕ) → at + 4 ≤ next → Rising next n ps → Rising at n (strip 1 at ++ ps)
 row-rising at next n ps h l = rising-append at next n (strip 1 at) ps (strip-rising 1 at next (omega arith) (omega arith)) l
 
-square-places : (w at n : ℕ) → 4 ≤ w → at + w + w + w + 3 < n → T (places n (square w at))
+pub square-places : (w at n : ℕ) → 4 ≤ w → at + w + w + w + 3 < n → T (places n (square w at))
 unfolding square
 square-places w at n h l =
     let last = strip 1 (at + w + w + w) in

@@ -8,4 +8,6 @@ pub mod OnePlanes
 pub mod Stages
 pub mod Cells
 pub mod Windows
+pub mod Squares
+pub mod Alone
 pub mod Sanity

@@ -33,13 +33,6 @@ module _ (p j i r : ℕ) where
       (coefficient-is p j (i + 1) (4 * r) r 0 (omega arith) (omega arith) ∙ omega arith)
       (coefficient-is p j (i + 1) (4 * r + 1) r 1 (omega arith) (omega arith) ∙ omega arith)
 
-  pub block-row-places : fourOf p j i (4 * r) j i (4 * r + 2) 1 ≡ strip 1 (cell p (4 * j + r) (4 * i))
-  block-row-places =
-      fours (coefficient-is p j i (4 * r) r 0 (omega arith) (omega arith) ∙ omega arith)
-      (coefficient-is p j i (4 * r + 1) r 1 (omega arith) (omega arith) ∙ omega arith)
-      (coefficient-is p j i (4 * r + 2) r 2 (omega arith) (omega arith) ∙ omega arith)
-      (coefficient-is p j i (4 * r + 2 + 1) r 3 (omega arith) (omega arith) ∙ omega arith)
-
   pub column-places : r < 4 → fourOf p j i (8 + r) (j + 1) i r 4 ≡ strip (4 * p) (cell p (4 * j + 2) (4 * i + r))
   column-places h =
       fours (coefficient-is p j i (8 + r) 2 r (omega arith) (omega arith))

@@ -108,13 +108,24 @@ across-wide true W H wide = omega arith
 grid-of : (g : Grid) (zs rest : List ℤ) → numbersOf g zs rest ≡ grid (squaresAcross g) (squaresDown g) (λ s. coefficients (at zs s) (λ k. at rest (15 * orderIn g s + k)))
 grid-of g zs rest = as-grid (g .second) (g .width) (g .height) zs rest
 
+pub is-wide : (g : Grid) → Sized g → 0 < squaresAcross g
+is-wide g z = across-wide (g .second) (g .width) (g .height) (z .wide)
+
+down-tall : (b : Bool) (W H : ℕ) → 0 < H → 0 < squaresDown (record { second = b; width = W; height = H })
+unfolding squaresDown
+down-tall false W H tall = tall
+down-tall true W H tall = omega arith
+
+pub is-tall : (g : Grid) → Sized g → 0 < squaresDown g
+is-tall g z = down-tall (g .second) (g .width) (g .height) (z .tall)
+
+pub length-numbers : (g : Grid) (zs rest : List ℤ) → length (numbersOf g zs rest) ≡ 16 * (squaresAcross g * squaresDown g)
+length-numbers g zs rest = ap length (grid-of g zs rest) ∙ length-grid (squaresAcross g) (squaresDown g) _
+
 back-one : (k : ℕ) → suc k - 1 ≡ k
 back-one k = omega arith
 
 module _ (g : Grid) (sized : Sized g) where
-  wide′ : 0 < squaresAcross g
-  wide′ = across-wide (g .second) (g .width) (g .height) (sized .wide)
-
   square-of-order : (s : ℕ) → squareIn g (orderIn g s) ≡ s
   square-of-order = order-back (g .second) (g .width) (g .height) (sized .wide)
 
@@ -132,7 +143,7 @@ module _ (g : Grid) (sized : Sized g) (t : ℕ) (h : t < squaresAcross g * squar
 
   pub zero-read : (zs rest : List ℤ) (k : ℕ) → k ≡ 0 → at (numbersOf g zs rest) (spotIn g t k) ≡ at zs (squareIn g t)
   unfolding spotIn
-  zero-read zs rest zero e = rw (grid-of g zs rest) (at-grid (wide′ g sized) (squaresDown g) _ _ 0 square-inside (omega arith))
+  zero-read zs rest zero e = rw (grid-of g zs rest) (at-grid (is-wide g sized) (squaresDown g) _ _ 0 square-inside (omega arith))
   zero-read zs rest (suc k) e = absurd (omega (arith, e))
 
   pub rest-read : (zs rest : List ℤ) (k : ℕ) → k < 16 → (k ≡ 0 → ⊥) → at (numbersOf g zs rest) (spotIn g t k) ≡ at rest (15 * t + (k - 1))
@@ -140,7 +151,7 @@ module _ (g : Grid) (sized : Sized g) (t : ℕ) (h : t < squaresAcross g * squar
   rest-read zs rest zero l n = absurd (n refl)
   rest-read zs rest (suc k) l n =
       rw (grid-of g zs rest, back-one k)
-      (at-grid (wide′ g sized) (squaresDown g) _ _ (suc k) square-inside l ∙ ap (λ (o : ℕ). at rest (15 * o + k)) order-of-square)
+      (at-grid (is-wide g sized) (squaresDown g) _ _ (suc k) square-inside l ∙ ap (λ (o : ℕ). at rest (15 * o + k)) order-of-square)
 
   pub zero-store : (zs rest : List ℤ) (k : ℕ) (x : ℤ) → k ≡ 0 → squaresAcross g * squaresDown g ≤ length zs
       → numbersOf g (set zs (squareIn g t) x) rest ≡ set (numbersOf g zs rest) (spotIn g t k) x
@@ -148,7 +159,7 @@ module _ (g : Grid) (sized : Sized g) (t : ℕ) (h : t < squaresAcross g * squar
   zero-store zs rest zero x e r =
       let l : squareIn g t < length zs = omega (arith, square-inside) in
       rw (grid-of g (set zs (squareIn g t) x) rest, grid-of g zs rest)
-      (set-zero (wide′ g sized) (squaresDown g) (orderIn g) zs rest _ x square-inside l)
+      (set-zero (is-wide g sized) (squaresDown g) (orderIn g) zs rest _ x square-inside l)
   zero-store zs rest (suc k) x e r = absurd (omega (arith, e))
 
   pub rest-store : (zs rest : List ℤ) (k : ℕ) (x : ℤ) → k < 16 → (k ≡ 0 → ⊥) → 15 * (squaresAcross g * squaresDown g) ≤ length rest
@@ -160,7 +171,7 @@ module _ (g : Grid) (sized : Sized g) (t : ℕ) (h : t < squaresAcross g * squar
       let e : 15 * t + (suc k - 1) ≡ 15 * orderIn g (squareIn g t) + k = rw (back-one k, order-of-square) in
       ap (λ (o : ℕ). numbersOf g zs (set rest o x)) e
       ∙ rw (grid-of g zs (set rest (15 * orderIn g (squareIn g t) + k) x), grid-of g zs rest)
-      (set-rest (wide′ g sized) (squaresDown g) (orderIn g) (order-inj g sized) zs rest _ k x square-inside (omega arith) m)
+      (set-rest (is-wide g sized) (squaresDown g) (orderIn g) (order-inj g sized) zs rest _ k x square-inside (omega arith) m)
 
 -- ---- the square in row j and column i
 

@@ -177,45 +177,6 @@ fn put_numbers(
     put_number(first, low, rest, grid, u, l + step, v[3]);
 }
 
-// Row r of square (j, i).
-pub fn block_row(
-    first: &[i32],
-    low: &[i32],
-    rest: &[i32],
-    grid: Grid,
-    j: usize,
-    i: usize,
-    r: usize,
-) -> [i32; 4]
-    requires { ⌜ Room grid (now first) (now low) (now rest) ⌝ }
-    requires { ⌜ Inside grid j i ⌝ }
-    requires { ⌜ r < 4 ⌝ }
-    ensures { λ v. ⌜ four v ≡ get (strip 1 (cell (squaresAcross grid) (4 * j + r) (4 * i))) (numbersIn grid (now (first .entry)) (now (low .entry)) (now (rest .entry))) ⌝ }
-{
-    let t = order(grid, j, i);
-    numbers(first, low, rest, grid, t, 4 * r, t, 4 * r + 2, 1)
-}
-
-pub fn put_block_row(
-    first: &mut [i32],
-    low: &mut [i32],
-    rest: &mut [i32],
-    grid: Grid,
-    j: usize,
-    i: usize,
-    r: usize,
-    v: [i32; 4],
-)
-    requires { ⌜ Room grid (now first) (now low) (now rest) ⌝ }
-    requires { ⌜ Inside grid j i ⌝ }
-    requires { ⌜ r < 4 ⌝ }
-    ensures { λ u. ⌜ numbersIn grid (now (first .exit)) (now (low .exit)) (now (rest .exit)) ≡ put (strip 1 (cell (squaresAcross grid) (4 * j + r) (4 * i))) (four v) (numbersIn grid (now (first .entry)) (now (low .entry)) (now (rest .entry))) ⌝ }
-    ensures { λ u. ⌜ Room grid (now (first .exit)) (now (low .exit)) (now (rest .exit)) ⌝ }
-{
-    let t = order(grid, j, i);
-    put_numbers(first, low, rest, grid, t, 4 * r, t, 4 * r + 2, 1, v);
-}
-
 // Across the edge between the squares (j, i) and (j, i + 1): two numbers of the row r of each.
 pub fn row(
     first: &[i32],

@@ -1,3 +1,4 @@
+-- The sum fits 64 bits, and is reduced.
 use mathlib.Core.Path.{_≡_, ap, _∙_}
 use mir.Syntax.{w32, w64}
 use mir.ValLaws.{toZ-ofZ}

@@ -1,3 +1,4 @@
+-- By cases: too large, too small, or in the range already.
 use mathlib.Core.Path.{_≡_, sym, ap, _∙_}
 use lib.IntN.{pos, _+ℤ_, _-ℤ_}
 use mir.Val.{toZ, ofZ}

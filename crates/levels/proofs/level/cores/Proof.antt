@@ -10,17 +10,11 @@ use Rattle.levels.proofs.level.cores.Statement.{statement}
 use Rattle.levels.proofs.level.cores.Tie as tie
 
 abbrev Inv-loop : tie.InvT-loop
-Inv-loop grid₀ p q w j₀ grid j =
+Inv-loop grid₀ p q j₀ grid j =
     (j ≤ q) × (length grid ≡ length grid₀) × (grid ≡ run (each j (λ k. each p (λ i. coreAt (4 * p) (cell p (4 * k) (4 * i))))) grid₀)
 
 abbrev μ-loop : tie.MeasureT-loop
-μ-loop grid₀ p q w j₀ grid j = q - j
-
-room : (c : tie.After-cores-across-arg Inv-loop μ-loop)
-    → cell (c .before .before .before .args .p) (4 * c .before .before .loop .j) (16 * c .before .before .before .args .p) ≤ length (c .before .before .loop .grid)
-room c =
-    let a = c .before .before .before .args in
-    omega (arith, next-turn (c .before .before .loop .j) (a .q) (16 * a .p) (omega arith))
+μ-loop grid₀ p q j₀ grid j = q - j
 
 loop-again : tie.Need-loop-again Inv-loop μ-loop
 loop-again c =
@@ -34,5 +28,6 @@ returns c = let e : c .before .loop .j ≡ c .before .before .args .q = omega ar
 pub cores-spec : {M : Type 1} → statement M
 cores-spec =
     tie.close
-    (tie.spec Inv-loop μ-loop (λ c. omega arith) (λ c. (omega arith, refl, each-none _ _)) (λ c. omega arith) (λ c. omega (arith, room c)) (λ c κs. omega (arith, room c))
+    (tie.spec Inv-loop μ-loop (λ c. (omega arith, refl, each-none _ _))
+    (λ c κs. let l = c .before .before in let a = l .before .args in (omega (arith, next-turn (l .loop .j) (a .q) (a .p) (omega arith), l .loop .inv .1), (omega arith, omega arith)))
     (λ c. omega arith) (λ c. omega arith) loop-again (λ c. c .before .loop .inv .1) returns)

@@ -1,3 +1,4 @@
+-- Each place lies in the grid, and the four reads are the strip.
 use Rattle.levels.proofs.Squares.{four-read}
 use borrow.Author.Needs.{needs}
 use Rattle.levels.proofs.square.get_four.Statement.{statement}

@@ -1,3 +1,4 @@
+-- Each place lies in the grid, and the four stores are the strip.
 use lib.ListN.{length-set}
 use native.Mathlib.Omega.{arith}
 use Rattle.levels.proofs.Squares.{four-stored}

@@ -1,3 +1,4 @@
+-- Four rows of four are the square.
 use Rattle.levels.proofs.Squares.{square-stored}
 use borrow.Author.Needs.{needs}
 use Rattle.levels.proofs.square.put_square.Statement.{statement}
