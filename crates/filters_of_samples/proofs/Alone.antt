@@ -1,23 +1,16 @@
 -- Each use of a filter is alone in its rectangle of the grid: all others lie in other rows or columns. So the filters undone are, there, that one use undone,
 -- and at a corner nothing.
-use Prim.Native.Nat.{ℕ, zero, suc, _+_, _-_, _*_, _/_, _%_, _≤_, _<_}
+use Prim.Native.Nat.{ℕ, zero, suc, _+_, _-_, _*_, _≤_, _<_}
 use mathlib.Core.Path.{_≡_, refl, sym, _∙_, ap, subst}
 use mathlib.Core.Logic.{_⊎_, inl, inr, by-cases}
-use mathlib.Core.List.{List, [], _∷_}
 use native.Mathlib.Omega.{arith}
 use native.Mathlib.Decide.{ℕ-discrete}
 use native.Mathlib.Nat.{add-mul}
 use lib.Arith.{digits-div, digits-mod}
-use lib.Dec.{T}
-use lib.ListN.{length, length-set}
-use lib.IntN.{ℤ}
-use Rattle.lifting.specs.Program.{Program, end, apply, Operator, SquareFilter, FourFilter, at, get, put, line, back, run, undo, _then_, each}
-use Rattle.lifting.specs.Valid.{places}
-use Rattle.lifting.proofs.Reverse.{get-put, length-put}
-use Rattle.lifting.proofs.Locality.{All, Agree, Local, all-map, get-same}
-use Rattle.operators.specs.Figures.{squareFilter, fourFilter, rotation}
+use Rattle.lifting.specs.Program.{Program, end, apply, SquareFilter, FourFilter, at, _then_}
+use Rattle.lifting.proofs.Locality.{All, Local}
+use Rattle.operators.specs.Figures.{squareFilter, fourFilter}
 use Rattle.picture.specs.Level.{cell, strip, square, squareFilterAt, fourFilterAt, squareFilters, rowFilters, columnFilters, filters}
-use Rattle.picture.proofs.Levels.{square-inside, row-strip-inside, column-strip-inside}
 use Rattle.picture.proofs.Cells.{all-strip, all-square}
 use Rattle.picture.proofs.Alone.{Does, outside, itself, nothing-then, then-nothing, none-of, one-of, then-then}
 use Rattle.filters_of_samples.specs.Settled.{Rectangle, Edge}

@@ -1,8 +1,8 @@
 -- What is stored at a filter's places is the unfiltered samples' there, since the filter is alone in its rectangle; and rectangles side by side make larger ones.
 use Prim.Native.Nat.{ℕ, zero, suc, _+_, _-_, _*_, _/_, _%_, _≤_, _<_}
-use mathlib.Core.Path.{_≡_, refl, sym, _∙_, ap, subst}
-use mathlib.Core.Logic.{inl, inr, by-cases}
-use mathlib.Core.List.{List, [], _∷_, map}
+use mathlib.Core.Path.{_≡_, refl, sym, _∙_, ap}
+use mathlib.Core.Logic.{inl, by-cases}
+use mathlib.Core.List.{List, [], _∷_}
 use native.Mathlib.Omega.{arith}
 use native.Mathlib.Decide.{decLt}
 use native.Mathlib.Nat.{div-add-mod', div-lt-iff-lt-mul, mod-lt, add-mul}
@@ -13,12 +13,11 @@ use lib.IntN.{ℤ}
 use Rattle.lifting.specs.Program.{Program, end, apply, Operator, at, get, put, line, back, undo}
 use Rattle.lifting.specs.Valid.{places}
 use Rattle.lifting.proofs.Reverse.{get-put, length-put}
-use Rattle.lifting.proofs.Locality.{All, Agree, agree-refl, all-map, get-same, put-keeps}
-use Rattle.operators.specs.Figures.{squareFilter, fourFilter, rotation}
+use Rattle.lifting.proofs.Locality.{All, agree-refl, all-map, get-same, put-keeps}
+use Rattle.operators.specs.Figures.{squareFilter, fourFilter}
 use Rattle.picture.specs.Level.{cell, strip, square, squareFilterAt, fourFilterAt, filters}
-use Rattle.picture.specs.Planes.{table}
 use Rattle.picture.proofs.Table.{at-table, same-lists}
-use Rattle.picture.proofs.Squares.{sixteen, get-sixteen, square-is}
+use Rattle.picture.proofs.Squares.{get-sixteen, square-is}
 use Rattle.picture.proofs.Levels.{rising-places, square-inside, row-strip-inside, column-strip-inside}
 use Rattle.picture.proofs.Alone.{Does}
 use Rattle.window_filters.proofs.Staged.{length-square}
@@ -67,10 +66,6 @@ module _ (p q : ℕ) (s : List ℤ) (len : length s ≡ 16 * (p * q)) where
       alone-numbers _ fourFilter (strip (4 * p) (cell p (4 * j + 2) x)) s (column-alone p q x j hx e hj)
       (column-within p (4 * j + 2) x hx)
       (column-strip-inside p q (4 * j + 2) x (omega arith) hx) (length-four (get (strip (4 * p) (cell p (4 * j + 2) x)) s)) len
-
-  pub corner-number : (y x i : ℕ) → 0 < p → 0 < q → Edge q y → Edge q (y + 1) → Edge p x → Edge p (x + 1) → Rectangle p y (y + 2) x (x + 2) i → at (undo (filters p q) s) i ≡ at s i
-  unfolding undo
-  corner-number y x i wide tall ey ey' ex ex' r = corner-alone p q y x wide tall ey ey' ex ex' .undoes s .same i r
 
 length-unfiltered : (p q : ℕ) (s : List ℤ) → 0 < p → 0 < q → length (undo (filters p q) s) ≡ length s
 unfolding undo

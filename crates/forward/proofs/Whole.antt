@@ -1,6 +1,6 @@
 -- The planes after both levels: each is read off the grid that it makes up.
-use Prim.Native.Nat.{ℕ, _+_, _*_, _≤_, _<_}
-use mathlib.Core.Path.{_≡_, refl, sym, _∙_, ap, subst}
+use Prim.Native.Nat.{ℕ, _*_, _≤_, _<_}
+use mathlib.Core.Path.{_≡_, sym, _∙_, ap, subst}
 use mathlib.Core.Bool.{Bool, true, false}
 use mathlib.Core.List.{List}
 use native.Mathlib.Omega.{arith}
@@ -15,7 +15,7 @@ use Rattle.picture.proofs.Table.{length-table}
 use Rattle.picture.proofs.Grid.{dc-of-first, low-of-first, view-of-second, high-of-second}
 use Rattle.picture.proofs.CheckLaws.{few}
 use Rattle.plane_grid.specs.declared.Grid.{Grid}
-use Rattle.plane_grid.specs.Held.{squaresAcross, squaresDown, zerosIn, numbersOf, numbersIn, Sized, ZeroRoom, Room}
+use Rattle.plane_grid.specs.Held.{squaresAcross, squaresDown, zerosIn, numbersOf, numbersIn, Room}
 use Rattle.forward.specs.Lent.{Lent}
 
 abbrev pub one : ℕ → ℕ → Grid
@@ -37,15 +37,6 @@ level-plain false p q v h e = rw e (sym (undo-then (cores p q) end _))
 level-plain true p q v h e = absurd (subst (λ (b : Bool). T b) h tt)
 
 -- ---- the grids of the levels in their planes
-
-module _ (W H : ℕ) (a l h : List ℤ) where
-  pub as-two : numbersIn (two W H) a l h ≡ secondGrid W H (firstGrid W H a l) h
-  unfolding numbersOf zerosIn
-  as-two = refl
-
-  pub as-one : (n : List ℤ) → numbersIn (one W H) a n l ≡ firstGrid W H a l
-  unfolding numbersOf zerosIn
-  as-one n = refl
 
 pub filters-two : (W H : ℕ) (a l h s : List ℤ) → numbersIn (two W H) a l h ≡ undo (filters (squaresAcross (two W H)) (squaresDown (two W H))) s
     → secondGrid W H (firstGrid W H a l) h ≡ undo (filters (4 * W) (4 * H)) s

@@ -1,6 +1,6 @@
 -- Two columns, one beside the other.
 use Prim.Native.Nat.{ℕ, _+_, _-_, _*_}
-use mathlib.Core.Path.{_≡_, refl, subst}
+use mathlib.Core.Path.{refl, subst}
 use native.Mathlib.Omega.{arith}
 use borrow.Author.Needs.{needs}
 use Rattle.plane_grid.specs.Held.{squaresAcross, squaresDown}

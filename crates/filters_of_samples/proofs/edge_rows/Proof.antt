@@ -1,10 +1,10 @@
 -- A corner, the two rows one under the other, and a corner, side by side.
 use Prim.Native.Nat.{ℕ, _+_, _-_, _*_, _<_}
-use mathlib.Core.Path.{_≡_, refl, subst}
+use mathlib.Core.Path.{refl, subst}
 use mathlib.Core.Logic.{inl, inr}
 use native.Mathlib.Omega.{arith}
 use borrow.Author.Needs.{needs}
-use Rattle.plane_grid.specs.Held.{squaresAcross, squaresDown, Inside}
+use Rattle.plane_grid.specs.Held.{squaresAcross, squaresDown}
 use Rattle.plane_grid.proofs.Held.{is-wide}
 use Rattle.filters_of_samples.specs.Settled.{Edge}
 use Rattle.filters_of_samples.proofs.Settle.{settled-as, beside, under}

@@ -1,11 +1,10 @@
 -- A refusal leaves all as it was; else the planes are those of the definition.
-use native.Mathlib.Omega.{arith}
-use mathlib.Core.Path.{_≡_, sym, _∙_}
+use mathlib.Core.Path.{sym, _∙_}
 use borrow.Author.Needs.{needs}
 use Rattle.picture.specs.Claims.{Shape}
 use Rattle.picture.specs.Transform.{forward, firstUndone, secondUndone}
 use Rattle.forward.specs.Lent.{Lent}
-use Rattle.picture.proofs.NumberLaws.{settled-done, settled-refused}
+use Rattle.picture.proofs.NumberLaws.{settled-refused}
 use Rattle.picture.proofs.CheckLaws.{known-filters, is-known}
 use Rattle.forward.proofs.Checks.{all-passed}
 use Rattle.forward.proofs.forward.Statement.{statement}

@@ -1,5 +1,4 @@
 -- Level two undone, and level one undone: the planes are what the grids say.
-use native.Mathlib.Omega.{arith}
 use mathlib.Core.Path.{_∙_}
 use borrow.Author.Needs.{needs}
 use Rattle.forward.proofs.Whole.{high-is, dc-is, low-is}

@@ -1,6 +1,4 @@
 -- The filters and then the cores, or the cores alone.
-use native.Mathlib.Omega.{arith}
-use mathlib.Core.Path.{_∙_}
 use borrow.Author.Needs.{needs}
 use Rattle.forward.proofs.Whole.{room-one, filters-one, level-filtered, level-plain}
 use Rattle.forward.proofs.undo_first.Statement.{statement}

@@ -3,9 +3,9 @@ use Prim.Native.Nat.{ℕ, _+_, _-_, _*_, _<_, _≤_}
 use native.Mathlib.Omega.{arith}
 use mathlib.Core.Path.{_≡_, refl, _∙_, ap}
 use native.Mathlib.Nat.{add-mul}
-use Rattle.lifting.specs.Program.{get, undo}
+use Rattle.lifting.specs.Program.{undo}
 use Rattle.operators.specs.Figures.{fourFilter}
-use Rattle.picture.specs.Level.{cell, strip}
+use Rattle.picture.specs.Level.{cell}
 use Rattle.plane_grid.specs.Held.{squaresAcross, squaresDown}
 use Rattle.plane_grid.proofs.Held.{across-small, down-small, length-numbers}
 use Rattle.filters_of_samples.proofs.Settle.{cell-low, settle-column}

@@ -1,7 +1,7 @@
 -- After j turns the rows up to the edge between the squares j and j + 1 are settled.
 use Prim.Native.Nat.{_+_, _-_, _*_, _≤_, _<_}
 use native.Mathlib.Omega.{arith}
-use mathlib.Core.Path.{_≡_, refl}
+use mathlib.Core.Path.{refl}
 use Rattle.plane_grid.specs.Held.{squaresDown}
 use Rattle.plane_grid.proofs.Held.{is-tall}
 use Rattle.filters_of_samples.proofs.Settle.{Sofar, sofar-none, sofar-under, settled-as, no-rows}

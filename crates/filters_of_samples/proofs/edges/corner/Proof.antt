@@ -1,12 +1,11 @@
 -- Four samples, two of each row, go to their cells as they are.
-use Prim.Native.Nat.{ℕ, _+_, _-_, _*_, _<_, _≤_}
+use Prim.Native.Nat.{_+_, _-_, _*_, _<_, _≤_}
 use mathlib.Core.Path.{_≡_, _∙_, ap}
 use mathlib.Core.List.{[], _∷_}
 use native.Mathlib.Omega.{arith}
 use borrow.Author.Needs.{needs}
 use Rattle.lifting.specs.Program.{get}
 use Rattle.levels.proofs.Squares.{four-read}
-use Rattle.picture.specs.Level.{cell}
 use Rattle.plane_grid.specs.Held.{squaresAcross, squaresDown}
 use Rattle.plane_grid.proofs.Held.{across-small, down-small, rest-small, length-numbers}
 use Rattle.filters_of_samples.proofs.Settle.{cell-low, fours, corner, settle-corner}

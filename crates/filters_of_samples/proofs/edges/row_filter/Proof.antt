@@ -1,10 +1,10 @@
 -- The four samples, unfiltered, go to their cells.
 use Prim.Native.Nat.{ℕ, _+_, _-_, _*_, _<_, _≤_}
 use native.Mathlib.Omega.{arith}
-use mathlib.Core.Path.{_≡_, _∙_, ap}
+use mathlib.Core.Path.{_∙_, ap}
 use Rattle.lifting.specs.Program.{get, undo}
 use Rattle.operators.specs.Figures.{fourFilter}
-use Rattle.picture.specs.Level.{cell, strip}
+use Rattle.picture.specs.Level.{strip}
 use Rattle.plane_grid.specs.Held.{squaresAcross, squaresDown}
 use Rattle.plane_grid.proofs.Held.{across-small, down-small, length-numbers}
 use Rattle.filters_of_samples.proofs.Settle.{cell-low, settle-row}

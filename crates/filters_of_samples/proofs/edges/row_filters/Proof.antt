@@ -1,7 +1,7 @@
 -- After i turns the columns up to the edge between the squares i and i + 1 are settled.
 use Prim.Native.Nat.{_+_, _-_, _*_, _≤_, _<_}
 use native.Mathlib.Omega.{arith}
-use mathlib.Core.Path.{_≡_, refl}
+use mathlib.Core.Path.{refl}
 use Rattle.plane_grid.specs.Held.{squaresAcross}
 use Rattle.plane_grid.proofs.Held.{is-wide}
 use Rattle.filters_of_samples.proofs.Settle.{Sofar, sofar-none, sofar-beside, settled-as, no-columns}

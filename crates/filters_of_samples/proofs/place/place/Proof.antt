@@ -2,8 +2,8 @@
 use native.Mathlib.Omega.{arith}
 use Prim.Native.Nat.{ℕ, _*_}
 use mathlib.Core.Path.{_≡_, ap}
-use Rattle.plane_grid.specs.Held.{squaresAcross, squaresDown}
-use Rattle.plane_grid.proofs.Held.{across-small, down-small, rest-small}
+use Rattle.plane_grid.specs.Held.{squaresAcross}
+use Rattle.plane_grid.proofs.Held.{across-small, rest-small}
 use Rattle.filters_of_samples.proofs.Settle.{cell-low}
 use Rattle.filters_of_samples.proofs.place.place.Statement.{statement}
 use Rattle.filters_of_samples.proofs.place.place.Tie as tie

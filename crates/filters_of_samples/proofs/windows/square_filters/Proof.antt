@@ -1,6 +1,6 @@
 -- Group after group of rows of windows, the rows up to the next group are settled.
 use Prim.Native.Nat.{_+_, _-_, _*_, _≤_, _<_}
-use mathlib.Core.Path.{_≡_, refl}
+use mathlib.Core.Path.{refl}
 use native.Mathlib.Omega.{arith}
 use Rattle.plane_grid.specs.Held.{squaresAcross, squaresDown}
 use Rattle.plane_grid.proofs.Held.{is-tall, down-small}

@@ -4,9 +4,6 @@ use mathlib.Core.Path.{_≡_, refl, _∙_, ap₂}
 use native.Mathlib.Omega.{arith}
 use native.Mathlib.Nat.{add-mul}
 use borrow.Author.Needs.{needs}
-use lib.ListN.{length}
-use lib.IntN.{ℤ}
-use mathlib.Core.List.{List}
 use Rattle.lifting.specs.Program.{undo, get}
 use Rattle.operators.specs.Figures.{squareFilter}
 use Rattle.picture.specs.Level.{cell, square}

@@ -1,6 +1,6 @@
 -- After k turns the rows of k rows of windows are settled.
-use Prim.Native.Nat.{_+_, _-_, _*_, _≤_, _<_}
-use mathlib.Core.Path.{_≡_, refl}
+use Prim.Native.Nat.{_+_, _-_, _*_, _≤_}
+use mathlib.Core.Path.{refl}
 use native.Mathlib.Omega.{arith}
 use Rattle.plane_grid.proofs.Held.{down-small}
 use Rattle.filters_of_samples.proofs.Settle.{Sofar, sofar-none, sofar-under, settled-as, no-rows}
