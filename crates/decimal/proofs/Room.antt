@@ -31,7 +31,3 @@ module _ (t : List ℕ) (room : ℕ) where
 
   pub count-some : (count t room ≡ 0 → ⊥) → length t ≤ room
   count-some f = ⊎-elim (λ q. absurd (f (count-none q))) (λ q. q) (lt-or-le room (length t))
-
-  -- in both cases it is within the room
-  pub count-le : count t room ≤ room
-  count-le = ⊎-elim (λ q. rw (count-none q) (omega arith)) (λ q. rw (count-fits q) q) (lt-or-le room (length t))

@@ -23,7 +23,7 @@ pub record Does (P : ℕ → Type 0) (a b : Program) : Type 0 where
   pub runs : (v : List ℤ) → Agree P (run a v) (run b v)
   pub undoes : (v : List ℤ) → Agree P (undo a v) (undo b v)
 
-then-end : (a : Program) → a then end ≡ a
+pub then-end : (a : Program) → a then end ≡ a
 unfolding _then_
 then-end end = refl
 then-end (l ⨾ a) = rw (then-end a)

@@ -34,10 +34,6 @@ pub length-grid : (p q : ℕ) (f : ℕ → ℕ → ℤ) → length (grid p q f) 
 unfolding grid
 length-grid p q f = length-table (16 * (p * q)) _
 
-pub at-place : (p q : ℕ) (f : ℕ → ℕ → ℤ) (i : ℕ) → i < 16 * (p * q) → at (grid p q f) i ≡ f (squareOf p i) (coefficientOf p i)
-unfolding grid
-at-place p q f i h = at-table (16 * (p * q)) _ i h
-
 pub row-grid : (p q : ℕ) (f : ℕ → ℕ → ℤ) → ((s k : ℕ) → SFits w32 (f s k)) → Row (16 * (p * q)) (grid p q f)
 unfolding grid
 row-grid p q f h = row-table (16 * (p * q)) _ (λ i l. h (squareOf p i) (coefficientOf p i))

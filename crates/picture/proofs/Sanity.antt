@@ -11,6 +11,7 @@ use Rattle.operators.specs.Figures.{hadamard, odd, oddOdd, core, coreStages, ro
 use Rattle.picture.specs.Level.{square, coreAt, squareFilterAt, fourFilterAt, cores, squareFilters, rowFilters, columnFilters, filters, level}
 use Rattle.picture.specs.Planes.{Planes, table, grid, firstGrid, secondGrid}
 use Rattle.picture.specs.Transform.{quarter, inverse}
+use Rattle.picture.proofs.Alone.{then-end}
 
 -- planes with these DC numbers and the rest 0
 abbrev dcOnly : ℕ → List ℤ → Planes
@@ -71,13 +72,6 @@ each-end : (n : ℕ) → each n (λ j. end) ≡ end
 unfolding each _then_
 each-end zero = refl
 each-end (suc n) = rw (each-end n)
-
-then-end : (p : Program) → p then end ≡ p
-unfolding _then_
-then-end end = refl
-then-end (l ⨾ p) = rw (then-end p)
-then-end (reorder to back p) = rw (then-end p)
-then-end (apply o s ps p) = rw (then-end p)
 
 pub one-across : (q : ℕ) → filters 1 q ≡ columnFilters 1 q 0 then columnFilters 1 q 1 then columnFilters 1 q 2 then columnFilters 1 q 3
 unfolding filters squareFilters rowFilters each _then_

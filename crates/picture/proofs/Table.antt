@@ -32,9 +32,6 @@ same-lists n v w h k e = ext-getD (pos 0) v w (h ∙ sym k) (λ i l. e i (omega 
 pub table-is : (n : ℕ) (f : ℕ → ℤ) (v : List ℤ) → length v ≡ n → ((i : ℕ) → i < n → f i ≡ at v i) → table n f ≡ v
 table-is n f v h e = same-lists n (table n f) v (length-table n f) h (λ i l. at-table n f i l ∙ e i l)
 
-pub table-at : (n : ℕ) (v : List ℤ) → length v ≡ n → table n (at v) ≡ v
-table-at n v h = table-is n (at v) v h (λ i l. refl)
-
 pub table-same : (n : ℕ) (f g : ℕ → ℤ) → ((i : ℕ) → i < n → f i ≡ g i) → table n f ≡ table n g
 table-same n f g e = table-is n f (table n g) (length-table n g) (λ i l. e i l ∙ sym (at-table n g i l))
 
