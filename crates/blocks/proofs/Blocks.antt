@@ -9,10 +9,10 @@ use lib.IntN.{ℤ, pos}
 use lib.Signed.{mag}
 use Rattle.lifting.specs.Program.{Program, Operator, end, apply, at, get, put, run, undo}
 use Rattle.lifting.proofs.Bits.{back}
-use Rattle.operators.specs.Block.{flat, list}
-use Rattle.operators.specs.declared.Four.{Four}
+use Rattle.figures.specs.Block.{flat, list}
+use Rattle.figures.specs.declared.Four.{Four}
 use Rattle.blocks.specs.declared.Quads.{Quads}
-use Rattle.operators.proofs.Parts.{keptFour}
+use Rattle.figures.proofs.Parts.{keptFour}
 
 -- ---- the numbers of a block
 

@@ -3,9 +3,9 @@ ghost use mathlib.Core.Path.{_≡_};
 ghost use mathlib.Core.List.{[], _∷_};
 ghost use Prim.Native.Nat.{_<_};
 ghost use Rattle.lifting.specs.Program.{get, at as number};
-ghost use Rattle.operators.specs.Block.{flat, list};
+ghost use Rattle.figures.specs.Block.{flat, list};
 ghost use Rattle.blocks.specs.Quads.{quartered as quarteredList, mirrored as mirroredList};
-use operators::Four;
+use figures::Four;
 
 pub struct Quads {
     pub p: Four,

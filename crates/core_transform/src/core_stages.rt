@@ -1,14 +1,14 @@
 // The two stages of Figure 4.8, on the fours that they take: quarters into mirrored fours, and back.
 ghost use mathlib.Core.Path.{_≡_};
 ghost use Rattle.lifting.specs.Program.{run, undo};
-ghost use Rattle.operators.specs.Figures.{coreStages};
+ghost use Rattle.figures.specs.Figures.{coreStages};
 ghost use Rattle.blocks.specs.Quads.{quartered, mirrored};
 use blocks::Quads;
-use operators::transform::hadamard;
-use operators::transform::odd;
-use operators::transform::odd_odd;
-use operators::transform::undo_odd;
-use operators::transform::undo_odd_odd;
+use core_operators::transform::hadamard;
+use core_operators::transform::odd;
+use core_operators::transform::odd_odd;
+use core_operators::transform::undo_odd;
+use core_operators::transform::undo_odd_odd;
 
 pub fn run_stages(v: Quads) -> Quads
     ensures { λ r. ⌜ mirrored r ≡ run coreStages (quartered v) ⌝ }

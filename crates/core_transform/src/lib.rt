@@ -3,8 +3,8 @@ mod core_stages; // core_stages.rt: the two stages of Figure 4.8
 
 ghost use mathlib.Core.Path.{_≡_};
 ghost use Rattle.lifting.specs.Program.{run, undo, get};
-ghost use Rattle.operators.specs.Block.{flat};
-ghost use Rattle.operators.specs.Figures.{core as coreLines, forwardReorder, inverseReorder};
+ghost use Rattle.figures.specs.Block.{flat};
+ghost use Rattle.figures.specs.Figures.{core as coreLines, forwardReorder, inverseReorder};
 ghost use Rattle.blocks.specs.Quads.{quartered as quarteredList};
 use crate::core_stages::run_stages;
 use crate::core_stages::undo_stages;

@@ -14,8 +14,8 @@ use Rattle.picture.specs.Planes.{grid, firstGrid, secondGrid, dcOf, lowOf, view
 use Rattle.picture.proofs.Table.{length-table}
 use Rattle.picture.proofs.Grid.{dc-of-first, low-of-first, view-of-second, high-of-second}
 use Rattle.picture.proofs.CheckLaws.{few}
-use Rattle.plane_grid.specs.declared.Grid.{Grid}
-use Rattle.plane_grid.specs.Held.{squaresAcross, squaresDown, zerosIn, numbersOf, numbersIn, Room}
+use Rattle.forward_planes.specs.declared.Grid.{Grid}
+use Rattle.forward_planes.specs.Held.{squaresAcross, squaresDown, zerosIn, numbersOf, numbersIn, Room}
 use Rattle.forward.specs.Lent.{Lent}
 
 abbrev pub one : ℕ → ℕ → Grid

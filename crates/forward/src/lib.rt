@@ -8,17 +8,17 @@ ghost use Rattle.picture.specs.Planes.{firstGrid, secondGrid, dcOf, lowOf, view
 ghost use Rattle.picture.specs.Numbers.{forwardNumber, settled};
 ghost use Rattle.picture.specs.Transform.{forward as forwardPlanes};
 ghost use Rattle.forward.specs.Lent.{Lent};
-use filters_in_place::filters::undo_filters;
-use filters_of_samples::undo_filters_of;
+use forward_cores::undo_first_cores;
+use forward_cores::undo_second_cores;
+use forward_cores::undo_second_cores_of;
+use forward_one_filters::filters::undo_filters;
+use forward_planes::Grid;
+use forward_two_filters::undo_filters_of;
 use picture::mode::Mode;
 use picture::mode::ModeAnswer;
 use picture::size::Size;
 use picture::size::check_planes;
 use picture::size::check_shape;
-use plane_cores::undo_first_cores;
-use plane_cores::undo_second_cores;
-use plane_cores::undo_second_cores_of;
-use plane_grid::Grid;
 
 // Checks 1, 2, 3, 7, 4, 5, 6: the number of the first that fails, or 0.
 fn check(mode: u32, size: Size, samples: usize, dc: usize, low: usize, high: usize) -> u32

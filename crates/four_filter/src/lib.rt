@@ -2,17 +2,17 @@
 ghost use mathlib.Core.Path.{_≡_};
 ghost use mathlib.Core.List.{[], _∷_};
 ghost use Rattle.lifting.specs.Program.{run, undo};
-ghost use Rattle.operators.specs.Block.{four};
-ghost use Rattle.operators.specs.Figures.{fourFilter as fourFilterLines};
-ghost use Rattle.operators.specs.Pieces.{fourRotation, pairScale};
+ghost use Rattle.figures.specs.Block.{four};
+ghost use Rattle.figures.specs.Figures.{fourFilter as fourFilterLines};
+ghost use Rattle.figures.specs.Pieces.{fourRotation, pairScale};
+use core_operators::steps::rounded;
+use core_operators::steps::scaled;
+use figures::Four;
+use figures::Pair;
 use lifting::add;
 use lifting::sub;
-use operators::Four;
-use operators::Pair;
-use operators::steps::rounded;
-use operators::steps::scaled;
-use overlap::rotation;
-use overlap::undo_rotation;
+use overlap_operators::rotation;
+use overlap_operators::undo_rotation;
 
 // The lines of Figure 4.13 up to its second pair of half sums
 fn four_rotation(a: i32, b: i32, c: i32, d: i32) -> Four

@@ -9,13 +9,15 @@ use lib.Arith.{digits-div}
 use lib.ListN.{length}
 use lib.IntN.{ℤ}
 use Rattle.lifting.specs.Program.{at, get, run}
-use Rattle.operators.specs.Figures.{core}
+use Rattle.lifting.proofs.Between.{none-left}
+use Rattle.lifting.proofs.Locality.{Agree, agree-refl}
+use Rattle.figures.specs.Figures.{core}
 use Rattle.picture.specs.Level.{cell, square, cores}
 use Rattle.picture.specs.Planes.{table, squareOf, place, grid}
 use Rattle.picture.proofs.Table.{table-same}
 use Rattle.picture.proofs.Grid.{grid-is, at-grid, length-grid}
 use Rattle.picture.proofs.Squares.{square-places}
-use Rattle.picture.proofs.Alone.{coresOfRow, other-rows, none-of, core-run-at, row-run-at}
+use Rattle.picture.proofs.Alone.{coresOfRow, other-rows, core-run-at, row-run-at}
 use Rattle.inverse.specs.Filled.{Filled}
 use Rattle.inverse.proofs.Moves.{filled-again}
 
@@ -26,11 +28,11 @@ cored f s = at (run core (table 16 (f s)))
 module _ {p : ℕ} (wide : 0 < p) (q : ℕ) where
   length-row : (j : ℕ) (v : List ℤ) → length (run (coresOfRow p j) v) ≡ length v
   unfolding run
-  length-row j v = other-rows (λ i. ⊥) p j (λ k i c x. x) .runs v .len
+  length-row j v = other-rows (λ i. ⊥) p j (λ k i c x. x) .runs v v agree-refl .len
 
   length-cores : (v : List ℤ) → length (run (cores p q) v) ≡ length v
   unfolding run cores
-  length-cores v = none-of (λ i. ⊥) q (coresOfRow p) (λ j l. other-rows (λ i. ⊥) p j (λ k i c x. x)) .runs v .len
+  length-cores v = none-left (Agree (λ i. ⊥)) q (coresOfRow p) (λ j l. other-rows (λ i. ⊥) p j (λ k i c x. x)) .runs v v agree-refl .len
 
   core-of-table : (f : ℕ → ℕ → ℤ) (v : List ℤ) (s : ℕ) → ((k : ℕ) → k < 16 → at v (place p s k) ≡ f s k) → (k : ℕ)
       → at (run core (get (square (4 * p) (cell p (4 * (s / p)) (4 * (s % p)))) v)) k ≡ cored f s k
@@ -42,7 +44,7 @@ module _ {p : ℕ} (wide : 0 < p) (q : ℕ) where
   row-filled j v l room = record {
     len = length-row j v;
     done = λ s k h m o. ap (λ i. at (run (coresOfRow p i) v) (place p s k)) (sym (row-is s h m)) ∙ row-run-at wide q s (omega arith) v l k o;
-    rest = λ i h. other-rows (λ x. ¬ ((j * p ≤ squareOf p x) × (squareOf p x < j * p + p))) p j (λ k x c n. n (in-row x (c .row))) .runs v .same i h;
+    rest = λ i h. other-rows (λ x. ¬ ((j * p ≤ squareOf p x) × (squareOf p x < j * p + p))) p j (λ k x c n. n (in-row x (c .row))) .runs v v agree-refl .same i h;
   }
     where
       row-is : (s : ℕ) → j * p ≤ s → s < j * p + p → s / p ≡ j

@@ -6,9 +6,9 @@ ghost use Rattle.lifting.specs.Program.{run, put, at as number};
 ghost use Rattle.picture.specs.Level.{cell, square, cores};
 ghost use Rattle.picture.specs.Planes.{table, coefficients, blockOrder, firstGrid, secondGrid};
 ghost use Rattle.inverse.specs.Filled.{Filled, blockNumbers};
-use levels::level::cores_across;
-use levels::square::get_four;
-use levels::square::put_square;
+use grid::get_four;
+use grid::put_square;
+use inverse_levels::cores_across;
 
 // One square: its coefficient 0, and its coefficients 1 to 15 from their plane, of which the first stands at `from`.
 fn put_coefficients(grid: &mut [i32], w: usize, at: usize, first: i32, rest: &[i32], from: usize)

@@ -1,7 +1,7 @@
 -- Inside one cell of a stage, the stage does what the cell's own uses do, in both directions: every other use keeps to its own cell and so changes nothing there.
 use Prim.Native.Nat.{ℕ, zero, suc, _+_, _*_, _/_, _%_, _<_}
 use mathlib.Core.Path.{_≡_, refl, sym, _∙_, subst}
-use mathlib.Core.Logic.{inl, by-cases}
+use mathlib.Core.Logic.{by-cases}
 use mathlib.Core.List.{List}
 use native.Mathlib.Omega.{arith}
 use native.Mathlib.Decide.{ℕ-discrete}
@@ -9,19 +9,18 @@ use native.Mathlib.Nat.{mod-lt, div-lt-iff-lt-mul}
 use lib.ListN.{length}
 use lib.IntN.{ℤ}
 use Rattle.lifting.specs.Program.{Program, end, _⨾_, reorder, apply, Operator, Core, at, get, put, run, undo, _then_, each}
-use Rattle.lifting.proofs.Compose.{run-then, undo-then}
-use Rattle.lifting.proofs.Locality.{All, Agree, Local, agree-refl, all-map, put-keeps, run-local, undo-local}
+use Rattle.lifting.proofs.Between.{All, all-map, Like, like-then, none-left}
+use Rattle.lifting.proofs.Locality.{Agree, agree-refl, use-inside, use-outside}
 use Rattle.lifting.proofs.Reverse.{length-put}
-use Rattle.operators.specs.Figures.{core, coreStages}
+use Rattle.figures.specs.Figures.{core, coreStages}
 use Rattle.picture.specs.Level.{cell, square, coreAt, cores}
 use Rattle.picture.specs.Planes.{place}
 use Rattle.picture.proofs.Squares.{square-is, own}
 use Rattle.picture.proofs.Cells.{InCell, in-cell, core-in-cell}
 
 -- a and b do the same inside P
-pub record Does (P : ℕ → Type 0) (a b : Program) : Type 0 where
-  pub runs : (v : List ℤ) → Agree P (run a v) (run b v)
-  pub undoes : (v : List ℤ) → Agree P (undo a v) (undo b v)
+abbrev pub Does : (ℕ → Type 0) → Program → Program → Type 0
+Does P = Like (Agree P)
 
 pub then-end : (a : Program) → a then end ≡ a
 unfolding _then_
@@ -38,53 +37,28 @@ then-then (reorder to back a) b c = rw (then-then a b c)
 then-then (apply o s ps a) b c = rw (then-then a b c)
 
 module _ (P : ℕ → Type 0) where
-  onward : {u v w : List ℤ} → Agree P u v → Agree P v w → Agree P u w
-  onward a b = record { len = a .len ∙ b .len; same = λ i h. a .same i h ∙ b .same i h }
-
-  pub itself : (a : Program) → Does P a a
-  itself a = record { runs = λ v. agree-refl; undoes = λ v. agree-refl }
-
-  does-then : (a b c d : Program) → Local P c → Local P d → Does P a c → Does P b d → Does P (a then b) (c then d)
-  does-then a b c d lc ld f g = record {
-    runs = λ v. rw (run-then a b v, run-then c d v) (onward (g .runs (run a v)) (run-local P d ld (f .runs v)));
-    undoes = λ v. rw (undo-then a b v, undo-then c d v) (onward (f .undoes (undo b v)) (undo-local P c lc (g .undoes v)));
-  }
-
-  -- a use outside P
-  pub outside : (o : Operator) (s : Program) (ps : List ℕ) → All (λ i. ¬ P i) ps → Does P (apply o s ps end) end
-  unfolding run undo
-  outside o s ps h = record { runs = λ v. put-keeps P ps _ h agree-refl; undoes = λ v. put-keeps P ps _ h agree-refl }
-
-  pub nothing-then : (a b d : Program) → Local P d → Does P a end → Does P b d → Does P (a then b) d
+  pub nothing-then : (a b d : Program) → Does P a end → Does P b d → Does P (a then b) d
   unfolding _then_
-  nothing-then a b d ld f g = does-then a b end d tt ld f g
+  nothing-then a b d f g = like-then (Agree P) a b end d f g
 
-  pub then-nothing : (a b c : Program) → Local P c → Does P a c → Does P b end → Does P (a then b) c
-  then-nothing a b c lc f g = subst (Does P (a then b)) (then-end c) (does-then a b c end lc tt f g)
-
-  pub none-of : (n : ℕ) (f : ℕ → Program) → ((i : ℕ) → i < n → Does P (f i) end) → Does P (each n f) end
-  unfolding each
-  none-of zero f h = itself end
-  none-of (suc n) f h = then-nothing (each n f) (f n) end tt (none-of n f (λ i l. h i (omega arith))) (h n (omega arith))
+  pub then-nothing : (a b c : Program) → Does P a c → Does P b end → Does P (a then b) c
+  then-nothing a b c f g = subst (Does P (a then b)) (then-end c) (like-then (Agree P) a b c end f g)
 
   -- the one of n that does something inside P
-  pub one-of : (n k : ℕ) (f : ℕ → Program) (c : Program) → Local P c → k < n → Does P (f k) c → ((i : ℕ) → i < n → (i ≡ k → ⊥) → Does P (f i) end) → Does P (each n f) c
+  pub one-of : (n k : ℕ) (f : ℕ → Program) (c : Program) → k < n → Does P (f k) c → ((i : ℕ) → i < n → (i ≡ k → ⊥) → Does P (f i) end) → Does P (each n f) c
   unfolding each
-  one-of zero k f c lc h d others = absurd (omega arith)
-  one-of (suc n) k f c lc h d others =
+  one-of zero k f c h d others = absurd (omega arith)
+  one-of (suc n) k f c h d others =
       by-cases (ℕ-discrete k n)
-      (λ e. nothing-then (each n f) (f n) c lc (none-of n f (λ i l. others i (omega arith) (λ q. absurd (omega (arith, q, e))))) (subst (λ (i : ℕ). Does P (f i) c) e d))
-      (λ o.
-      then-nothing (each n f) (f n) c lc (one-of n k f c lc (omega (arith, o)) d (λ i l. others i (omega arith))) (others n (omega arith) (λ q. o (sym q))))
+      (λ e.
+      nothing-then (each n f) (f n) c (none-left (Agree P) n f (λ i l. others i (omega arith) (λ q. absurd (omega (arith, q, e))))) (subst (λ (i : ℕ). Does P (f i) c) e d))
+      (λ o. then-nothing (each n f) (f n) c (one-of n k f c (omega (arith, o)) d (λ i l. others i (omega arith))) (others n (omega arith) (λ q. o (sym q))))
 
 -- ---- uses of other cells
 
 module _ (d p a b : ℕ) where
   elsewhere : (a' b' : ℕ) (o : Operator) (s : Program) (ps : List ℕ) → (a' ≡ a → b' ≡ b → ⊥) → All (InCell d p a' b') ps → Does (InCell d p a b) (apply o s ps end) end
-  elsewhere a' b' o s ps n h = outside (InCell d p a b) o s ps (all-map ps (λ i m q. n (sym (m .row) ∙ q .row) (sym (m .column) ∙ q .column)) h)
-
-  here : (o : Operator) (s : Program) (ps : List ℕ) → All (InCell d p a b) ps → Local (InCell d p a b) (apply o s ps end)
-  here o s ps h = (inl h, tt)
+  elsewhere a' b' o s ps n h = use-outside (InCell d p a b) o s ps (all-map ps (λ i m q. n (sym (m .row) ∙ q .row) (sym (m .column) ∙ q .column)) h)
 
 -- ---- the cores
 
@@ -96,19 +70,19 @@ pub row-core-alone : (p j i : ℕ) → i < p → Does (InCell 0 p j i) (coresOfR
 unfolding coreAt
 row-core-alone p j i hi =
     let its = square (4 * p) (cell p (4 * j) (4 * i)) in
-    one-of (InCell 0 p j i) p i _ (apply Core core its end) (here 0 p j i Core core its (core-in-cell p j i hi)) hi (itself (InCell 0 p j i) (apply Core core its end))
+    one-of (InCell 0 p j i) p i _ (apply Core core its end) hi (use-inside (InCell 0 p j i) Core core its (core-in-cell p j i hi))
     (λ k l n. elsewhere 0 p j i j k Core core (square (4 * p) (cell p (4 * j) (4 * k))) (λ e f. n f) (core-in-cell p j k l))
 
 pub other-rows : (P : ℕ → Type 0) (p j : ℕ) → ((k i : ℕ) → InCell 0 p j k i → ¬ P i) → Does P (coresOfRow p j) end
 unfolding coreAt
 other-rows P p j h =
-    none-of P p _ (λ k l. let its = square (4 * p) (cell p (4 * j) (4 * k)) in outside P Core core its (all-map its (h k) (core-in-cell p j k l)))
+    none-left (Agree P) p _ (λ k l. let its = square (4 * p) (cell p (4 * j) (4 * k)) in use-outside P Core core its (all-map its (h k) (core-in-cell p j k l)))
 
 pub core-alone : (p q j i : ℕ) → j < q → i < p → Does (InCell 0 p j i) (cores p q) (coreAt (4 * p) (cell p (4 * j) (4 * i)))
 unfolding cores coreAt
 core-alone p q j i hj hi =
     let its = square (4 * p) (cell p (4 * j) (4 * i)) in
-    one-of (InCell 0 p j i) q j (coresOfRow p) (apply Core core its end) (here 0 p j i Core core its (core-in-cell p j i hi)) hj (row-core-alone p j i hi)
+    one-of (InCell 0 p j i) q j (coresOfRow p) (apply Core core its end) hj (row-core-alone p j i hi)
     (λ k l n. other-rows (InCell 0 p j i) p k (λ m x c d. n (sym (c .row) ∙ d .row)))
 
 length-undo-core : (v : List ℤ) → length (undo core v) ≡ 16
@@ -137,15 +111,15 @@ module _ {p : ℕ} (wide : 0 < p) (q s : ℕ) (low : s < p * q) where
   pub core-undone-at : (v : List ℤ) → length v ≡ 16 * (p * q) → (k : ℕ) → k < 16 → at (undo (cores p q) v) (place p s k) ≡ at (undo core (get its v)) k
   unfolding undo coreAt
   core-undone-at v l k h =
-      core-alone p q (s / p) (s % p) row-low (mod-lt s wide) .undoes v .same (place p s k) (place-in-cell k h) ∙ stored (undo core (get its v)) v (length-undo-core (get its v)) l k h
+      core-alone p q (s / p) (s % p) row-low (mod-lt s wide) .undoes v v agree-refl .same (place p s k) (place-in-cell k h) ∙ stored (undo core (get its v)) v (length-undo-core (get its v)) l k h
 
   pub core-run-at : (v : List ℤ) → length v ≡ 16 * (p * q) → (k : ℕ) → k < 16 → at (run (cores p q) v) (place p s k) ≡ at (run core (get its v)) k
   unfolding run coreAt
   core-run-at v l k h =
-      core-alone p q (s / p) (s % p) row-low (mod-lt s wide) .runs v .same (place p s k) (place-in-cell k h) ∙ stored (run core (get its v)) v (length-run-core (get its v)) l k h
+      core-alone p q (s / p) (s % p) row-low (mod-lt s wide) .runs v v agree-refl .same (place p s k) (place-in-cell k h) ∙ stored (run core (get its v)) v (length-run-core (get its v)) l k h
 
   -- the same, where only the cores of the square's own row run
   pub row-run-at : (v : List ℤ) → length v ≡ 16 * (p * q) → (k : ℕ) → k < 16 → at (run (coresOfRow p (s / p)) v) (place p s k) ≡ at (run core (get its v)) k
   unfolding run coreAt
   row-run-at v l k h =
-      row-core-alone p (s / p) (s % p) (mod-lt s wide) .runs v .same (place p s k) (place-in-cell k h) ∙ stored (run core (get its v)) v (length-run-core (get its v)) l k h
+      row-core-alone p (s / p) (s % p) (mod-lt s wide) .runs v v agree-refl .same (place p s k) (place-in-cell k h) ∙ stored (run core (get its v)) v (length-run-core (get its v)) l k h

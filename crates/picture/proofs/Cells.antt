@@ -1,17 +1,13 @@
 -- The places of each use of a stage lie in one cell, a 4 x 4 square of the grid moved d up and left: d = 0 for the cores, 2 for the filters.
--- So a set of places that goes by the cell has each use wholly inside it or wholly outside, and keeps its agreement through the stage.
+-- So a set of places that goes by the cell has each use wholly inside it or wholly outside.
 use Prim.Native.Nat.{ℕ, _+_, _-_, _*_, _/_, _%_, _<_}
 use mathlib.Core.Path.{_≡_, refl}
-use mathlib.Core.Logic.{inl, inr}
 use mathlib.Core.List.{List, [], _∷_, _++_}
 use native.Mathlib.Omega.{arith}
 use native.Mathlib.Nat.{add-mul}
 use lib.Arith.{digits-div, digits-mod}
-use Rattle.lifting.specs.Program.{Program, end, apply, Operator, Core, SquareFilter, FourFilter}
-use Rattle.lifting.proofs.Locality.{All, OneSide, Local, all-map, local-then}
-use Rattle.operators.specs.Figures.{core, squareFilter, fourFilter}
-use Rattle.picture.specs.Level.{cell, strip, square, coreAt, squareFilterAt, fourFilterAt, cores, filters}
-use Rattle.picture.proofs.Stages.{OfCores, OfFilters, of-cores, of-filters}
+use Rattle.lifting.proofs.Between.{All}
+use Rattle.picture.specs.Level.{cell, strip, square}
 
 -- the cell of row (or column) r
 abbrev pub zone : ℕ → ℕ → ℕ
@@ -21,10 +17,6 @@ zone d r = (r + d) / 4
 pub record InCell (d p a b i : ℕ) : Type 0 where
   pub row : zone d (i / (4 * p)) ≡ a
   pub column : zone d (i % (4 * p)) ≡ b
-
--- the places whose cell is in Q
-abbrev pub Cells : ℕ → ℕ → (ℕ → ℕ → Type 0) → ℕ → Type 0
-Cells d p Q i = Q (zone d (i / (4 * p))) (zone d (i % (4 * p)))
 
 all-append : (P : ℕ → Type 0) (ps qs : List ℕ) → All P ps → All P qs → All P (ps ++ qs)
 all-append P [] qs h k = k
@@ -94,32 +86,3 @@ row-filter-in-cell p r i h = strip-across 2 p (zone 2 r) (i + 1) r (4 * i + 2) _
 
 pub column-filter-in-cell : (p c j : ℕ) → c < 4 * p → All (InCell 2 p (j + 1) (zone 2 c)) (strip (4 * p) (cell p (4 * j + 2) c))
 column-filter-in-cell p c j h = strip-down 2 p (j + 1) (zone 2 c) (4 * j + 2) c _ refl h (omega arith) (omega arith) refl
-
--- ---- sets of cells
-
-module _ (p : ℕ) (Q : ℕ → ℕ → Type 0) (decide : (a b : ℕ) → Dec (Q a b)) where
-  one-side : (d a b : ℕ) (ps : List ℕ) → Dec (Q a b) → All (InCell d p a b) ps → OneSide (Cells d p Q) ps
-  one-side d a b ps (yes q) h = inl (all-map ps (λ i m. rw (m .row, m .column) q) h)
-  one-side d a b ps (no f) h = inr (all-map ps (λ i m q. f (rw (m .row, m .column) at q)) h)
-
-  use-local : (d a b : ℕ) (o : Operator) (s : Program) (ps : List ℕ) → All (InCell d p a b) ps → Local (Cells d p Q) (apply o s ps end)
-  use-local d a b o s ps h = (one-side d a b ps (decide a b) h, tt)
-
-  core-uses : (q : ℕ) → OfCores (Local (Cells 0 p Q)) p q
-  unfolding coreAt
-  core-uses q j i l h = use-local 0 j i Core core (square (4 * p) (cell p (4 * j) (4 * i))) (core-in-cell p j i h)
-
-  filter-uses : (q : ℕ) → OfFilters (Local (Cells 2 p Q)) p q
-  unfolding squareFilterAt fourFilterAt
-  filter-uses q =
-      record {
-        squares = λ j i l h. use-local 2 (j + 1) (i + 1) SquareFilter squareFilter (square (4 * p) (cell p (4 * j + 2) (4 * i + 2))) (square-filter-in-cell p j i h);
-        rows = λ r i l h. use-local 2 (zone 2 r) (i + 1) FourFilter fourFilter (strip 1 (cell p r (4 * i + 2))) (row-filter-in-cell p r i h);
-        columns = λ c j h l. use-local 2 (j + 1) (zone 2 c) FourFilter fourFilter (strip (4 * p) (cell p (4 * j + 2) c)) (column-filter-in-cell p c j h);
-      }
-
-  pub cores-local : (q : ℕ) → Local (Cells 0 p Q) (cores p q)
-  cores-local q = of-cores (Local (Cells 0 p Q)) tt (local-then _) p q (core-uses q)
-
-  pub filters-local : (q : ℕ) → 0 < p → 0 < q → Local (Cells 2 p Q) (filters p q)
-  filters-local q wide tall = of-filters (Local (Cells 2 p Q)) tt (local-then _) p q wide tall (filter-uses q)

@@ -10,8 +10,8 @@ use mir.Facts.{yes-and, not-T}
 use Rattle.lifting.specs.Program.{Program, end}
 use Rattle.lifting.specs.Valid.{notIn, places, valid}
 use Rattle.lifting.proofs.Uses.{valid-then}
-use Rattle.operators.specs.Figures.{core, squareFilter, fourFilter}
-use Rattle.operators.proofs.Figures.{core-valid, square-filter-valid, four-filter-valid}
+use Rattle.figures.specs.Figures.{core, squareFilter, fourFilter}
+use Rattle.figures.proofs.Figures.{core-valid, square-filter-valid, four-filter-valid}
 use Rattle.picture.specs.Level.{cell, strip, square, coreAt, squareFilterAt, fourFilterAt, cores, filters, level}
 use Rattle.picture.proofs.Stages.{OfCores, OfFilters, of-cores, of-filters}
 

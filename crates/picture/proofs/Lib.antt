@@ -7,6 +7,8 @@ pub mod Levels
 pub mod OnePlanes
 pub mod Stages
 pub mod Cells
+pub mod Part
+pub mod LevelPart
 pub mod Windows
 pub mod Squares
 pub mod Alone

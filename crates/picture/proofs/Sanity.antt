@@ -7,7 +7,7 @@ use lib.Dec.{T, eqb, leb, ltb}
 use lib.IntN.{ℤ, pos, negsuc}
 use Rattle.lifting.specs.Wrap.{wrap}
 use Rattle.lifting.specs.Program.{Program, end, _⨾_, reorder, apply, at, run, line, value, get, put, _then_, each}
-use Rattle.operators.specs.Figures.{hadamard, odd, oddOdd, core, coreStages, rotation, scale, postHadamard, postOddOdd, fourFilter, squareFilter}
+use Rattle.figures.specs.Figures.{hadamard, odd, oddOdd, core, coreStages, rotation, scale, postHadamard, postOddOdd, fourFilter, squareFilter}
 use Rattle.picture.specs.Level.{square, coreAt, squareFilterAt, fourFilterAt, cores, squareFilters, rowFilters, columnFilters, filters, level}
 use Rattle.picture.specs.Planes.{Planes, table, grid, firstGrid, secondGrid}
 use Rattle.picture.specs.Transform.{quarter, inverse}

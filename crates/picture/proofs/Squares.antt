@@ -10,7 +10,8 @@ use Rattle.lifting.specs.Program.{at, get, put}
 use Rattle.lifting.specs.Valid.{places}
 use Rattle.lifting.proofs.Reverse.{get-put}
 use Rattle.lifting.proofs.Uses.{places-map}
-use Rattle.lifting.proofs.Locality.{All, agree-refl, put-keeps}
+use Rattle.lifting.proofs.Between.{All}
+use Rattle.lifting.proofs.Locality.{agree-refl, put-keeps}
 use Rattle.picture.specs.Level.{cell, square}
 use Rattle.picture.specs.Planes.{table, squareOf, coefficientOf, place}
 use Rattle.picture.proofs.Table.{at-table}

@@ -3,7 +3,7 @@ use Prim.Native.Nat.{ℕ, _+_, _-_, _*_}
 use mathlib.Core.Bool.{Bool, true, false}
 use mathlib.Core.List.{List, [], _∷_, _++_}
 use Rattle.lifting.specs.Program.{Program, end, apply, _then_, each, Core, SquareFilter, FourFilter}
-use Rattle.operators.specs.Figures.{core, squareFilter, fourFilter}
+use Rattle.figures.specs.Figures.{core, squareFilter, fourFilter}
 
 -- the place of row r, column c
 abbrev pub cell : ℕ → ℕ → ℕ → ℕ

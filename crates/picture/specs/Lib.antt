@@ -1,3 +1,4 @@
+pub mod Sizes
 pub mod Level
 pub mod Planes
 pub mod Transform

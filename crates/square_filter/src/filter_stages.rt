@@ -1,18 +1,18 @@
 // The stages of Figure 4.14, on mirrored fours: p is a d m p of the figure, q is b c n o, r is e h i l, s is f g j k.
 ghost use mathlib.Core.Path.{_≡_};
 ghost use Rattle.lifting.specs.Program.{run, undo};
-ghost use Rattle.operators.specs.Figures.{squareFilter};
+ghost use Rattle.figures.specs.Figures.{squareFilter};
 ghost use Rattle.blocks.specs.Quads.{mirrored};
 use blocks::Quads;
-use operators::transform::hadamard;
-use overlap::post_hadamard;
-use overlap::post_odd_odd;
-use overlap::rotation;
-use overlap::scale;
-use overlap::undo_post_hadamard;
-use overlap::undo_post_odd_odd;
-use overlap::undo_rotation;
-use overlap::undo_scale;
+use core_operators::transform::hadamard;
+use overlap_operators::post_hadamard;
+use overlap_operators::post_odd_odd;
+use overlap_operators::rotation;
+use overlap_operators::scale;
+use overlap_operators::undo_post_hadamard;
+use overlap_operators::undo_post_odd_odd;
+use overlap_operators::undo_rotation;
+use overlap_operators::undo_scale;
 
 pub fn run_filter(v: Quads) -> Quads
     ensures { λ r. ⌜ mirrored r ≡ run squareFilter (mirrored v) ⌝ }

@@ -3,8 +3,8 @@ mod filter_stages; // filter_stages.rt: the stages of Figure 4.14
 
 ghost use mathlib.Core.Path.{_≡_};
 ghost use Rattle.lifting.specs.Program.{run, undo};
-ghost use Rattle.operators.specs.Block.{flat};
-ghost use Rattle.operators.specs.Figures.{squareFilter as squareFilterLines};
+ghost use Rattle.figures.specs.Block.{flat};
+ghost use Rattle.figures.specs.Figures.{squareFilter as squareFilterLines};
 use crate::filter_stages::run_filter;
 use crate::filter_stages::undo_filter;
 use blocks::mirrored;

@@ -1,8 +1,8 @@
 -- Each number is read back as it was.
 use mathlib.Core.Path.{ap}
-use Rattle.operators.specs.Block.{flat}
+use Rattle.figures.specs.Block.{flat}
 use Rattle.blocks.specs.Quads.{mirrored}
-use Rattle.operators.proofs.Parts.{told}
+use Rattle.figures.proofs.Parts.{told}
 use Rattle.blocks.proofs.Blocks.{quads}
 use Rattle.blocks.proofs.mirrored.Statement.{statement}
 use Rattle.blocks.proofs.mirrored.Tie as tie

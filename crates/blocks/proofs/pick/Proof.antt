@@ -1,7 +1,7 @@
 -- Each field is the coefficient that its call reads.
 use borrow.Author.Needs.{needs}
 use Rattle.lifting.specs.Program.{get}
-use Rattle.operators.proofs.Parts.{held}
+use Rattle.figures.proofs.Parts.{held}
 use Rattle.blocks.proofs.pick.Statement.{statement}
 use Rattle.blocks.proofs.pick.Tie as tie
 

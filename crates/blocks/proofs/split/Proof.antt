@@ -1,7 +1,7 @@
 -- Each four is known as the numbers at its places.
 use borrow.Author.Needs.{needs}
 use Rattle.lifting.specs.Program.{get}
-use Rattle.operators.specs.Block.{flat}
+use Rattle.figures.specs.Block.{flat}
 use Rattle.blocks.specs.Quads.{mirrored}
 use Rattle.blocks.proofs.Blocks.{four-is}
 use Rattle.blocks.proofs.split.Statement.{statement}

@@ -1,7 +1,7 @@
 -- The reorder, and then the stages.
 use mathlib.Core.Path.{_∙_, ap}
 use Rattle.lifting.specs.Program.{run, undo, get}
-use Rattle.operators.specs.Figures.{core, coreStages}
+use Rattle.figures.specs.Figures.{core, coreStages}
 use Rattle.core_transform.proofs.core.Statement.{statement}
 use Rattle.core_transform.proofs.core.Tie as tie
 

@@ -1,7 +1,7 @@
 -- Each four is known as the coefficients at its entries of the table.
 use borrow.Author.Needs.{needs}
 use Rattle.lifting.specs.Program.{get}
-use Rattle.operators.specs.Block.{flat}
+use Rattle.figures.specs.Block.{flat}
 use Rattle.blocks.specs.Quads.{quartered}
 use Rattle.blocks.proofs.Blocks.{four-is}
 use Rattle.core_transform.proofs.reorder.Statement.{statement}

@@ -1,7 +1,7 @@
 -- The stages undone, and then the reorder.
 use mathlib.Core.Path.{_∙_, ap}
 use Rattle.lifting.specs.Program.{run, undo, get}
-use Rattle.operators.specs.Figures.{inverseReorder, core, coreStages}
+use Rattle.figures.specs.Figures.{inverseReorder, core, coreStages}
 use Rattle.core_transform.proofs.undo_core.Statement.{statement}
 use Rattle.core_transform.proofs.undo_core.Tie as tie
 

@@ -1,8 +1,8 @@
 -- Figure 4.13 is its pieces, each by what its call ensures.
 use mir.Syntax.{w32}
 use mir.ValLaws.{toZ-ofZ}
-use Rattle.operators.proofs.Figures.{four-filter-pieces}
-use Rattle.operators.proofs.Parts.{place, pair, four}
+use Rattle.figures.proofs.Figures.{four-filter-pieces}
+use Rattle.figures.proofs.Parts.{place, pair, four}
 use Rattle.four_filter.proofs.four_filter.Statement.{statement}
 use Rattle.four_filter.proofs.four_filter.Tie as tie
 

@@ -2,8 +2,8 @@
 use mathlib.Core.Path.{_∙_}
 use mir.Syntax.{w32}
 use mir.ValLaws.{toZ-ofZ}
-use Rattle.operators.proofs.Figures.{undo-four-filter-pieces}
-use Rattle.operators.proofs.Parts.{place, pair}
+use Rattle.figures.proofs.Figures.{undo-four-filter-pieces}
+use Rattle.figures.proofs.Parts.{place, pair}
 use Rattle.four_filter.proofs.undo_four_filter.Statement.{statement}
 use Rattle.four_filter.proofs.undo_four_filter.Tie as tie
 

@@ -4,9 +4,9 @@ use mir.ValLaws.{toZ-ofZ}
 use Rattle.lifting.specs.Program.{undo, back, line, value, get, put}
 use Rattle.lifting.proofs.Bits.{again, again-shr}
 use borrow.Author.Needs.{needs}
-use Rattle.operators.specs.Figures.{rotation}
-use Rattle.operators.specs.Pieces.{fourRotation}
-use Rattle.operators.proofs.Parts.{place}
+use Rattle.figures.specs.Figures.{rotation}
+use Rattle.figures.specs.Pieces.{fourRotation}
+use Rattle.figures.proofs.Parts.{place}
 use Rattle.four_filter.proofs.undo_four_rotation.Statement.{statement}
 use Rattle.four_filter.proofs.undo_four_rotation.Tie as tie
 

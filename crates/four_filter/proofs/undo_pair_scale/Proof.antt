@@ -4,7 +4,7 @@ use mir.ValLaws.{toZ-ofZ}
 use Rattle.lifting.specs.Program.{undo, back, line, value}
 use Rattle.lifting.proofs.Bits.{again, again-shr}
 use borrow.Author.Needs.{needs}
-use Rattle.operators.specs.Pieces.{pairScale}
+use Rattle.figures.specs.Pieces.{pairScale}
 use Rattle.four_filter.proofs.undo_pair_scale.Statement.{statement}
 use Rattle.four_filter.proofs.undo_pair_scale.Tie as tie
 

@@ -9,8 +9,8 @@ use mir.Val.{toZ, ofZ}
 use mir.Syntax.{w32}
 use Rattle.lifting.specs.Program.{Program, at, undo}
 use Rattle.lifting.proofs.Bits.{back}
-use Rattle.operators.specs.Block.{four}
-use Rattle.operators.proofs.Parts.{kept}
+use Rattle.figures.specs.Block.{four}
+use Rattle.figures.proofs.Parts.{kept}
 use Rattle.four_filter.proofs.unfiltered.Statement.{statement}
 use Rattle.four_filter.proofs.unfiltered.Tie as tie
 

@@ -8,7 +8,7 @@ use lib.Seq.{length-take-le, take-at}
 use Rattle.lifting.specs.Program.{run}
 use Rattle.picture.specs.Level.{cores, level}
 use Rattle.picture.specs.Planes.{secondGrid}
-use Rattle.levels.proofs.Loops.{then-more}
+use Rattle.inverse_levels.proofs.Loops.{then-more}
 use Rattle.inverse.proofs.both_levels.Statement.{statement}
 use Rattle.inverse.proofs.both_levels.Tie as tie
 

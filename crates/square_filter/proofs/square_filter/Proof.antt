@@ -1,7 +1,7 @@
 -- The stages, on the fours of the block.
 use mathlib.Core.Path.{_∙_, ap}
 use Rattle.lifting.specs.Program.{run, undo, get}
-use Rattle.operators.specs.Figures.{squareFilter}
+use Rattle.figures.specs.Figures.{squareFilter}
 use Rattle.square_filter.proofs.square_filter.Statement.{statement}
 use Rattle.square_filter.proofs.square_filter.Tie as tie
 

@@ -2,9 +2,9 @@
 use mathlib.Core.Path.{ap}
 use borrow.Author.Needs.{needs}
 use Rattle.lifting.specs.Program.{get, put}
-use Rattle.operators.specs.Figures.{coreStages}
+use Rattle.figures.specs.Figures.{coreStages}
 use Rattle.blocks.specs.Quads.{quartered, mirrored}
-use Rattle.operators.proofs.Parts.{told, four}
+use Rattle.figures.proofs.Parts.{told, four}
 use Rattle.blocks.proofs.Blocks.{quads, undone, _◃_, unended}
 use Rattle.core_transform.proofs.core_stages.undo_stages.Statement.{statement}
 use Rattle.core_transform.proofs.core_stages.undo_stages.Tie as tie

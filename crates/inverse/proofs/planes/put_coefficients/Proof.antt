@@ -1,6 +1,6 @@
 -- The sixteen numbers, row by row, are the square's coefficients.
 use borrow.Author.Needs.{needs}
-use Rattle.levels.proofs.Squares.{square-rows}
+use Rattle.grid.proofs.Squares.{square-rows}
 use Rattle.inverse.proofs.planes.put_coefficients.Statement.{statement}
 use Rattle.inverse.proofs.planes.put_coefficients.Tie as tie
 

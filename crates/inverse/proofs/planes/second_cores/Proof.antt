@@ -7,7 +7,7 @@ use lib.Seq.{getD-take}
 use lib.IntN.{pos}
 use Rattle.lifting.specs.Program.{at}
 use Rattle.picture.specs.Planes.{coefficients, blockOrder, secondGrid}
-use Rattle.levels.proofs.Loops.{next-turn}
+use Rattle.inverse_levels.proofs.Loops.{next-turn}
 use Rattle.inverse.specs.Filled.{Filled, blockNumbers}
 use Rattle.inverse.proofs.Moves.{filled-none, filled-before, before-filled, filled-grid, row-before}
 use Rattle.inverse.proofs.Rows.{cored, row-cored, grid-cored}

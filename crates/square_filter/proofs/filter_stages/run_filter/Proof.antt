@@ -2,9 +2,9 @@
 use mathlib.Core.Path.{ap}
 use borrow.Author.Needs.{needs}
 use Rattle.lifting.specs.Program.{get, put}
-use Rattle.operators.specs.Figures.{squareFilter}
+use Rattle.figures.specs.Figures.{squareFilter}
 use Rattle.blocks.specs.Quads.{mirrored}
-use Rattle.operators.proofs.Parts.{told, pair, four}
+use Rattle.figures.proofs.Parts.{told, pair, four}
 use Rattle.blocks.proofs.Blocks.{quads, ran, _▹_, ended}
 use Rattle.square_filter.proofs.filter_stages.run_filter.Statement.{statement}
 use Rattle.square_filter.proofs.filter_stages.run_filter.Tie as tie

@@ -1,0 +1,56 @@
+-- Every figure can be undone: the test of validity computes to true, and the reversal law does the rest.
+use mathlib.Core.Path.{_≡_, refl, sym, _∙_}
+use mathlib.Core.List.{List, [], _∷_}
+use lib.Dec.{T}
+use lib.IntN.{ℤ}
+use Rattle.lifting.specs.Program.{at, run, undo, back, line, value, get, put}
+use Rattle.lifting.specs.Valid.{valid, undoes}
+use Rattle.figures.specs.Figures.{hadamard, odd, oddOdd, inverseReorder, forwardReorder, core, coreStages, rotation, scale, postHadamard, postOddOdd, fourFilter, squareFilter}
+use Rattle.figures.specs.Pieces.{fourRotation, pairScale}
+
+pub hadamard-valid : (R : ℤ) → T (valid 4 (hadamard R))
+unfolding hadamard
+hadamard-valid R = tt
+
+-- undone last line first, Figure 4.4 takes the same steps
+pub hadamard-self : (R x y z w : ℤ) → undo (hadamard R) (x ∷ y ∷ z ∷ w ∷ []) ≡ run (hadamard R) (x ∷ y ∷ z ∷ w ∷ [])
+unfolding run undo back line value hadamard
+hadamard-self R x y z w = refl
+
+pub both : {v w x : List ℤ} → x ≡ w → v ≡ w → (v ≡ w) × (v ≡ x)
+both p q = (q, q ∙ sym p)
+
+pub core-valid : T (valid 16 core)
+unfolding core coreStages hadamard odd oddOdd
+core-valid = tt
+
+pub four-filter-valid : T (valid 4 fourFilter)
+unfolding fourFilter rotation
+four-filter-valid = tt
+
+pub square-filter-valid : T (valid 16 squareFilter)
+unfolding squareFilter hadamard rotation scale postHadamard postOddOdd
+square-filter-valid = tt
+
+-- each of the two reorder tables undoes the other
+pub inverse-undoes-forward : T (undoes 16 inverseReorder forwardReorder)
+inverse-undoes-forward = tt
+
+pub forward-undoes-inverse : T (undoes 16 forwardReorder inverseReorder)
+forward-undoes-inverse = tt
+
+-- Figure 4.13 is its pieces one after the other
+pub four-filter-pieces : (x y z w : ℤ)
+    → let v = run fourRotation (x ∷ y ∷ z ∷ w ∷ []) in
+    let o = run pairScale (at v 0 ∷ at v 3 ∷ []) in
+    let i = run pairScale (at v 1 ∷ at v 2 ∷ []) in
+    at o 0 ∷ at i 0 ∷ at i 1 ∷ at o 1 ∷ [] ≡ run fourFilter (x ∷ y ∷ z ∷ w ∷ [])
+unfolding run line value get put rotation fourRotation pairScale fourFilter
+four-filter-pieces x y z w = refl
+
+pub undo-four-filter-pieces : (x y z w : ℤ)
+    → let o = undo pairScale (x ∷ w ∷ []) in
+    let i = undo pairScale (y ∷ z ∷ []) in
+    undo fourRotation (at o 0 ∷ at i 0 ∷ at i 1 ∷ at o 1 ∷ []) ≡ undo fourFilter (x ∷ y ∷ z ∷ w ∷ [])
+unfolding undo back line value get put rotation fourRotation pairScale fourFilter
+undo-four-filter-pieces x y z w = refl

@@ -1,0 +1,26 @@
+-- One stage after another.
+use borrow.Author.Needs.{needs}
+use Rattle.picture.specs.Level.{filters}
+use Rattle.inverse_levels.proofs.Loops.{then-more}
+use Rattle.inverse_levels.proofs.filters.Statement.{statement}
+use Rattle.inverse_levels.proofs.filters.Tie as tie
+
+returns : tie.Need-returns
+unfolding filters
+returns c =
+    let c6 = c .before in
+    let c5 = c6 .before .before .before in
+    let c4 = c5 .before .before .before in
+    let c3 = c4 .before .before .before in
+    let c2 = c3 .before .before .before in
+    let c1 = c2 .before .before .before in
+    then-more _ _ _ (c1 .square-filters .ensures)
+    (then-more _ _ _ (c2 .row-filters .ensures)
+    (then-more _ _ _ (c3 .row-filters2 .ensures)
+    (then-more _ _ _ (c4 .row-filters3 .ensures) (then-more _ _ _ (c5 .row-filters4 .ensures) (c6 .edge-columns .ensures)))))
+
+pub filters-spec : {M : Type 1} → statement M
+filters-spec =
+    tie.close
+    (tie.spec (λ c κs. search needs) (λ c κs. search needs) (λ c κs. search needs) (λ c. search needs) (λ c. search needs) (λ c κs. search needs) (λ c. search needs)
+    (λ c. search needs) (λ c κs. search needs) (λ c κs. search needs) (λ c. search needs) returns)
