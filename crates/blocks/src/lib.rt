@@ -1,4 +1,6 @@
 // Blocks of four rows of four numbers as four fours, and back.
+pub mod stage; // stage.rt: the stage that Figures 4.8 and 4.14 share
+
 ghost use mathlib.Core.Path.{_≡_};
 ghost use mathlib.Core.List.{[], _∷_};
 ghost use Prim.Native.Nat.{_<_};
@@ -83,4 +85,15 @@ pub fn row(f: Four) -> [i32; 4]
     ensures { λ r. ⌜ r ≡ list f ⌝ }
 {
     [f.a, f.b, f.c, f.d]
+}
+
+// A block as its quarters
+pub fn quarters(b: [[i32; 4]; 4]) -> Quads
+    ensures { λ r. ⌜ quarteredList r ≡ flat b ⌝ }
+{
+    let p = pick(b, 0, 1, 4, 5);
+    let q = pick(b, 2, 3, 6, 7);
+    let r = pick(b, 8, 12, 9, 13);
+    let s = pick(b, 10, 11, 14, 15);
+    Quads { p, q, r, s }
 }

@@ -1,8 +1,9 @@
 // What the core transform is made of: the 2 x 2 Hadamard, odd and odd-odd operators (Figures 4.4 to 4.6).
 ghost use mathlib.Core.Path.{_≡_};
-ghost use mathlib.Core.List.{[], _∷_};
 ghost use Rattle.lifting.specs.Program.{run, undo};
 ghost use Rattle.figures.specs.Figures.{hadamard as hadamardLines, odd as oddLines, oddOdd as oddOddLines};
+ghost use Rattle.figures.specs.Block.{list};
+ghost use Rattle.figures.specs.Pieces.{oddOddRounded};
 use crate::steps::rounded;
 use crate::steps::scaled;
 use figures::Four;
@@ -12,10 +13,14 @@ use lifting::shift;
 use lifting::sub;
 
 // Figure 4.4. Undone from its last line to its first it takes the same steps, so that it is its own undoing.
-pub fn hadamard(a: i32, b: i32, c: i32, d: i32, r: i32) -> Four
-    ensures done { λ o. ⌜ o .a ∷ o .b ∷ o .c ∷ o .d ∷ [] ≡ run (hadamardLines r) (a ∷ b ∷ c ∷ d ∷ []) ⌝ }
-    ensures undone { λ o. ⌜ o .a ∷ o .b ∷ o .c ∷ o .d ∷ [] ≡ undo (hadamardLines r) (a ∷ b ∷ c ∷ d ∷ []) ⌝ }
+pub fn hadamard(v: Four, r: i32) -> Four
+    ensures done { λ o. ⌜ list o ≡ run (hadamardLines r) (list v) ⌝ }
+    ensures undone { λ o. ⌜ list o ≡ undo (hadamardLines r) (list v) ⌝ }
 {
+    let a = v.a;
+    let b = v.b;
+    let c = v.c;
+    let d = v.d;
     let a1 = add(a, d);
     let b1 = sub(b, c);
     let t = rounded(sub(a1, b1), r, 1);
@@ -32,9 +37,13 @@ pub fn hadamard(a: i32, b: i32, c: i32, d: i32, r: i32) -> Four
 }
 
 // Figure 4.5
-pub fn odd(a: i32, b: i32, c: i32, d: i32) -> Four
-    ensures { λ o. ⌜ o .a ∷ o .b ∷ o .c ∷ o .d ∷ [] ≡ run oddLines (a ∷ b ∷ c ∷ d ∷ []) ⌝ }
+pub fn odd(v: Four) -> Four
+    ensures { λ o. ⌜ list o ≡ run oddLines (list v) ⌝ }
 {
+    let a = v.a;
+    let b = v.b;
+    let c = v.c;
+    let d = v.d;
     let b1 = add(b, d);
     let a1 = sub(a, c);
     let d1 = sub(d, shift(b1, 1));
@@ -56,9 +65,13 @@ pub fn odd(a: i32, b: i32, c: i32, d: i32) -> Four
 }
 
 // Figure 4.5 undone
-pub fn undo_odd(a: i32, b: i32, c: i32, d: i32) -> Four
-    ensures { λ o. ⌜ o .a ∷ o .b ∷ o .c ∷ o .d ∷ [] ≡ undo oddLines (a ∷ b ∷ c ∷ d ∷ []) ⌝ }
+pub fn undo_odd(v: Four) -> Four
+    ensures { λ o. ⌜ list o ≡ undo oddLines (list v) ⌝ }
 {
+    let a = v.a;
+    let b = v.b;
+    let c = v.c;
+    let d = v.d;
     let a1 = add(a, d);
     let b1 = sub(b, c);
     let d1 = sub(rounded(a1, 1, 1), d);
@@ -79,56 +92,90 @@ pub fn undo_odd(a: i32, b: i32, c: i32, d: i32) -> Four
     }
 }
 
-// Figure 4.6
-pub fn odd_odd(a: i32, b: i32, c: i32, d: i32) -> Four
-    ensures { λ o. ⌜ o .a ∷ o .b ∷ o .c ∷ o .d ∷ [] ≡ run oddOddLines (a ∷ b ∷ c ∷ d ∷ []) ⌝ }
+// The lines that Figures 4.6 and 4.12 share, with their two roundings
+pub fn odd_odd_rounded(v: Four, k: i32, l: i32) -> Four
+    ensures { λ o. ⌜ list o ≡ run (oddOddRounded k l) (list v) ⌝ }
 {
+    let a = v.a;
+    let b = v.b;
+    let c = v.c;
+    let d = v.d;
     let d1 = add(d, a);
     let c1 = sub(c, b);
     let t1 = shift(d1, 1);
     let t2 = shift(c1, 1);
     let a1 = sub(a, t1);
     let b1 = add(b, t2);
-    let a2 = sub(a1, scaled(b1, 3, 3));
-    let b2 = add(b1, scaled(a2, 3, 2));
+    let a2 = sub(a1, scaled(b1, k, 3));
+    let b2 = add(b1, scaled(a2, l, 2));
     let a3 = sub(a2, scaled(b2, 4, 3));
     let b3 = sub(b2, t2);
     let a4 = add(a3, t1);
     let c2 = add(c1, b3);
     let d2 = sub(d1, a4);
-    let b4 = negate(b3);
-    let c3 = negate(c2);
     Four {
         a: a4,
-        b: b4,
-        c: c3,
+        b: b3,
+        c: c2,
         d: d2,
     }
 }
 
-// Figure 4.6 undone
-pub fn undo_odd_odd(a: i32, b: i32, c: i32, d: i32) -> Four
-    ensures { λ o. ⌜ o .a ∷ o .b ∷ o .c ∷ o .d ∷ [] ≡ undo oddOddLines (a ∷ b ∷ c ∷ d ∷ []) ⌝ }
+// The same undone
+pub fn undo_odd_odd_rounded(v: Four, k: i32, l: i32) -> Four
+    ensures { λ o. ⌜ list o ≡ undo (oddOddRounded k l) (list v) ⌝ }
 {
-    let c1 = negate(c);
-    let b1 = negate(b);
+    let a = v.a;
+    let b = v.b;
+    let c = v.c;
+    let d = v.d;
     let d1 = add(d, a);
-    let c2 = sub(c1, b1);
+    let c1 = sub(c, b);
     let t1 = shift(d1, 1);
-    let t2 = shift(c2, 1);
+    let t2 = shift(c1, 1);
     let a1 = sub(a, t1);
-    let b2 = add(b1, t2);
-    let a2 = add(a1, scaled(b2, 4, 3));
-    let b3 = sub(b2, scaled(a2, 3, 2));
-    let a3 = add(a2, scaled(b3, 3, 3));
-    let b4 = sub(b3, t2);
+    let b1 = add(b, t2);
+    let a2 = add(a1, scaled(b1, 4, 3));
+    let b2 = sub(b1, scaled(a2, l, 2));
+    let a3 = add(a2, scaled(b2, k, 3));
+    let b3 = sub(b2, t2);
     let a4 = add(a3, t1);
-    let c3 = add(c2, b4);
+    let c2 = add(c1, b3);
     let d2 = sub(d1, a4);
     Four {
         a: a4,
-        b: b4,
-        c: c3,
+        b: b3,
+        c: c2,
         d: d2,
     }
+}
+
+// Figure 4.6
+pub fn odd_odd(v: Four) -> Four
+    ensures { λ o. ⌜ list o ≡ run oddOddLines (list v) ⌝ }
+{
+    let o = odd_odd_rounded(v, 3, 3);
+    let b = negate(o.b);
+    let c = negate(o.c);
+    Four {
+        a: o.a,
+        b,
+        c,
+        d: o.d,
+    }
+}
+
+// Figure 4.6 undone
+pub fn undo_odd_odd(v: Four) -> Four
+    ensures { λ o. ⌜ list o ≡ undo oddOddLines (list v) ⌝ }
+{
+    let b = negate(v.b);
+    let c = negate(v.c);
+    let o = Four {
+        a: v.a,
+        b,
+        c,
+        d: v.d,
+    };
+    undo_odd_odd_rounded(o, 3, 3)
 }

@@ -1,8 +1,8 @@
-// The two stages of Figure 4.8, on the fours that they take: quarters into mirrored fours, and back.
-ghost use mathlib.Core.Path.{_≡_};
+// The first stage of Figure 4.8, which takes the quarters of a block: places 0 1 4 5, 2 3 6 7, 8 12 9 13 and 10 11 14 15.
+ghost use lib.IntN.{pos};
 ghost use Rattle.lifting.specs.Program.{run, undo};
-ghost use Rattle.figures.specs.Figures.{coreStages};
-ghost use Rattle.blocks.specs.Quads.{quartered, mirrored};
+ghost use Rattle.figures.specs.Figures.{hadamard as hadamardLines, odd as oddLines, oddOdd as oddOddLines};
+ghost use Rattle.blocks.specs.Quads.{OnFours};
 use blocks::Quads;
 use core_operators::transform::hadamard;
 use core_operators::transform::odd;
@@ -10,48 +10,22 @@ use core_operators::transform::odd_odd;
 use core_operators::transform::undo_odd;
 use core_operators::transform::undo_odd_odd;
 
-pub fn run_stages(v: Quads) -> Quads
-    ensures { λ r. ⌜ mirrored r ≡ run coreStages (quartered v) ⌝ }
+pub fn quarter_stage(v: Quads) -> Quads
+    ensures { λ w. ⌜ OnFours (run (hadamardLines (pos 1))) (run oddLines) (run oddLines) (run oddOddLines) v w ⌝ }
 {
-    let p = v.p;
-    let q = v.q;
-    let r = v.r;
-    let s = v.s;
-    let f = hadamard(p.a, p.b, p.c, p.d, 1); // 0 1 4 5
-    let g = odd(q.a, q.b, q.c, q.d); // 2 3 6 7
-    let h = odd(r.a, r.b, r.c, r.d); // 8 12 9 13
-    let k = odd_odd(s.a, s.b, s.c, s.d); // 10 11 14 15
-    let w = hadamard(f.a, g.b, h.b, k.d, 0); // 0 3 12 15
-    let z = hadamard(f.d, g.c, h.c, k.a, 0); // 5 6 9 10
-    let x = hadamard(f.b, g.a, h.d, k.c, 0); // 1 2 13 14
-    let y = hadamard(f.c, g.d, h.a, k.b, 0); // 4 7 8 11
-    Quads {
-        p: w,
-        q: x,
-        r: y,
-        s: z,
-    }
+    let p = hadamard(v.p, 1);
+    let q = odd(v.q);
+    let r = odd(v.r);
+    let s = odd_odd(v.s);
+    Quads { p, q, r, s }
 }
 
-pub fn undo_stages(v: Quads) -> Quads
-    ensures { λ r. ⌜ quartered r ≡ undo coreStages (mirrored v) ⌝ }
+pub fn undo_quarter_stage(v: Quads) -> Quads
+    ensures { λ w. ⌜ OnFours (undo (hadamardLines (pos 1))) (undo oddLines) (undo oddLines) (undo oddOddLines) v w ⌝ }
 {
-    let p = v.p;
-    let q = v.q;
-    let r = v.r;
-    let s = v.s;
-    let y = hadamard(r.a, r.b, r.c, r.d, 0); // 4 7 8 11
-    let x = hadamard(q.a, q.b, q.c, q.d, 0); // 1 2 13 14
-    let z = hadamard(s.a, s.b, s.c, s.d, 0); // 5 6 9 10
-    let w = hadamard(p.a, p.b, p.c, p.d, 0); // 0 3 12 15
-    let k = undo_odd_odd(z.d, y.d, x.d, w.d); // 10 11 14 15
-    let h = undo_odd(y.c, w.c, z.c, x.c); // 8 12 9 13
-    let g = undo_odd(x.b, w.b, z.b, y.b); // 2 3 6 7
-    let f = hadamard(w.a, x.a, y.a, z.a, 1); // 0 1 4 5
-    Quads {
-        p: f,
-        q: g,
-        r: h,
-        s: k,
-    }
+    let p = hadamard(v.p, 1);
+    let q = undo_odd(v.q);
+    let r = undo_odd(v.r);
+    let s = undo_odd_odd(v.s);
+    Quads { p, q, r, s }
 }

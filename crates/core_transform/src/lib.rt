@@ -1,24 +1,24 @@
 // The core transform of a block of four rows of four numbers (Figure 4.8).
-mod core_stages; // core_stages.rt: the two stages of Figure 4.8
+mod core_stages; // core_stages.rt: the first stage of Figure 4.8
+mod tables; // tables.rt: the reorder that begins Figure 4.8, and its undoing
 
 ghost use mathlib.Core.Path.{_≡_};
 ghost use Rattle.lifting.specs.Program.{run, undo, get};
 ghost use Rattle.figures.specs.Block.{flat};
 ghost use Rattle.figures.specs.Figures.{core as coreLines, forwardReorder, inverseReorder};
 ghost use Rattle.blocks.specs.Quads.{quartered as quarteredList};
-use crate::core_stages::run_stages;
-use crate::core_stages::undo_stages;
+use crate::core_stages::quarter_stage;
+use crate::core_stages::undo_quarter_stage;
+use crate::tables::FORWARD_REORDER;
+use crate::tables::INVERSE_REORDER;
 use blocks::Quads;
 use blocks::mirrored;
 use blocks::pick;
 use blocks::quartered;
+use blocks::quarters;
 use blocks::row;
 use blocks::split;
-
-// The reorder that begins Figure 4.8, and its undoing: coefficient k goes to the place in entry k (01, "One block").
-pub const INVERSE_REORDER: [usize; 16] = [0, 8, 4, 13, 2, 15, 3, 14, 1, 12, 5, 9, 7, 11, 6, 10];
-
-pub const FORWARD_REORDER: [usize; 16] = [0, 8, 4, 6, 2, 10, 14, 12, 1, 11, 15, 13, 9, 3, 7, 5];
+use blocks::stage::hadamards;
 
 // The quarters of a block that is reordered as Figure 4.8 begins: place i takes the coefficient at the forward table's entry i.
 fn reorder(b: [[i32; 4]; 4]) -> Quads
@@ -48,12 +48,14 @@ fn undo_reorder(b: [[i32; 4]; 4]) -> [[i32; 4]; 4]
 pub fn core(b: [[i32; 4]; 4]) -> [[i32; 4]; 4]
     ensures { λ r. ⌜ flat r ≡ run coreLines (flat b) ⌝ }
 {
-    mirrored(run_stages(reorder(b)))
+    let first = quartered(quarter_stage(reorder(b)));
+    mirrored(hadamards(split(first)))
 }
 
 // Figure 4.8 undone
 pub fn undo_core(b: [[i32; 4]; 4]) -> [[i32; 4]; 4]
     ensures { λ r. ⌜ flat r ≡ undo coreLines (flat b) ⌝ }
 {
-    undo_reorder(quartered(undo_stages(split(b))))
+    let first = mirrored(hadamards(split(b)));
+    undo_reorder(quartered(undo_quarter_stage(quarters(first))))
 }

@@ -10,16 +10,17 @@ use Rattle.lifting.specs.Row.{Row}
 use Rattle.lifting.proofs.WrapLaws.{wrap-fits}
 use Rattle.decimal.specs.Text.{refusedLine}
 use Rattle.decimal.proofs.Digits.{digits-at-most}
-use Rattle.picture.specs.Claims.{Shape}
+use Rattle.picture.specs.Sizes.{Sized, macroblocks}
+use Rattle.picture.specs.Modes.{modeOf}
 use Rattle.picture.specs.Planes.{PlanesOf}
 use Rattle.picture.proofs.NumberLaws.{settled-done, settled-refused}
 use Rattle.picture.proofs.OnePlanes.{row-inverse}
 use Rattle.picture.proofs.Table.{row-table}
 use Rattle.plane_file.specs.declared.header.Header.{Header}
 use Rattle.plane_file.specs.Words.{wordAt, numbersAt}
-use Rattle.plane_file.specs.Header.{headerOf, answer}
+use Rattle.plane_file.specs.Header.{sizeIn, headerOf, answer}
 use Rattle.plane_file.specs.Numbers.{startChecks, totalCheck, countIn}
-use Rattle.plane_file.proofs.Checks.{number-of, read-shape, read-done, first-zero}
+use Rattle.plane_file.proofs.Checks.{number-of, read-sized, read-done, first-zero}
 use Rattle.decode.specs.Program.{countCheck, programNumber, planesOf, samplesOf, left}
 use Rattle.decode.specs.Shown.{rows, shown}
 use Rattle.decode.proofs.Decide.{few}
@@ -32,7 +33,7 @@ plane-row : (bytes : List ℕ) (at n : ℕ) → Row n (numbersAt bytes at n)
 unfolding numbersAt
 plane-row bytes at n = row-table n _ (λ i h. wrap-fits _)
 
-planes-row : (bytes : List ℕ) → PlanesOf (wordAt bytes 4) (wordAt bytes 8) (planesOf bytes)
+planes-row : (bytes : List ℕ) → PlanesOf (sizeIn bytes) (planesOf bytes)
 planes-row bytes = record { dc = plane-row bytes _ _; low = plane-row bytes _ _; high = plane-row bytes _ _ }
 
 module _ (bytes : List ℕ) (r : Header) (e : r ≡ answer (programNumber bytes) bytes) where
@@ -44,18 +45,18 @@ module _ (bytes : List ℕ) (r : Header) (e : r ≡ answer (programNumber bytes)
   unfolding shown
   refused-shown h =
       ap refusedLine (sym number)
-      ∙ sym (settled-refused (programNumber bytes) (rows (16 * wordAt bytes 8) (16 * wordAt bytes 4) (samplesOf bytes)) (refusedLine (programNumber bytes)) (λ z. h (sym number ∙ z)))
+      ∙ sym (settled-refused (programNumber bytes) (rows (16 * sizeIn bytes .height .0) (16 * sizeIn bytes .width .0) (samplesOf bytes)) (refusedLine (programNumber bytes)) (λ z. h (sym number ∙ z)))
 
   module _ (z : r .number ≡ 0) where
-    said : r ≡ headerOf 0 (wordAt bytes 0) (wordAt bytes 4) (wordAt bytes 8)
+    said : r ≡ headerOf 0 (wordAt bytes 0) (sizeIn bytes)
     unfolding programNumber
     said = read-done bytes (startChecks bytes ++ countCheck (countIn bytes) ++ totalCheck (countIn bytes) (length bytes)) r e z
 
-    pub shape : Shape (r .mode) (r .size .width .0) (r .size .height .0)
+    pub sized : Sized (r .size)
     unfolding programNumber
-    shape = read-shape bytes (countCheck (countIn bytes) ++ totalCheck (countIn bytes) (length bytes)) r tt e z
+    sized = read-sized bytes (countCheck (countIn bytes) ++ totalCheck (countIn bytes) (length bytes)) r e z
 
-    pub small : r .size .width .0 * r .size .height .0 ≤ 16
+    pub small : macroblocks (r .size) ≤ 16
     unfolding programNumber
     small =
         rw said
@@ -63,16 +64,16 @@ module _ (bytes : List ℕ) (r : Header) (e : r ≡ answer (programNumber bytes)
 
     -- sides of w and h samples
     module _ {w h : ℕ} (across : w ≡ 16 * r .size .width .0) (down : h ≡ 16 * r .size .height .0) where
-      pub area : h * w ≡ 256 * (r .size .width .0 * r .size .height .0)
+      pub area : h * w ≡ 256 * macroblocks (r .size)
       area = rw (across, down) (omega arith)
 
       counted : 256 * countIn bytes ≡ h * w
-      counted = sym (area ∙ ap (λ (a : Header). 256 * (a .size .width .0 * a .size .height .0)) said)
+      counted = sym (area ∙ ap (λ (a : Header). 256 * macroblocks (a .size)) said)
 
       pub samples-row : Row (h * w) (samplesOf bytes)
       samples-row =
-          let s = rw said at shape in
-          rw (← counted) (row-inverse (wordAt bytes 0) (wordAt bytes 4) (wordAt bytes 8) (s .width .0) (s .height .0) (planes-row bytes))
+          let s = rw said at sized in
+          rw (← counted) (row-inverse (modeOf (wordAt bytes 0)) (sizeIn bytes) s (planes-row bytes))
 
       pub front-is : (was : List ℤ) {v : List ℤ} → v ≡ left bytes (256 * countIn bytes) (samplesOf bytes) was → take (h * w) v ≡ samplesOf bytes
       front-is was q =
@@ -84,4 +85,4 @@ module _ (bytes : List ℕ) (r : Header) (e : r ≡ answer (programNumber bytes)
       rows-shown =
           rw (across, down)
           (ap (λ (a : Header). rows (16 * a .size .height .0) (16 * a .size .width .0) (samplesOf bytes)) said
-          ∙ sym (settled-done (programNumber bytes) (rows (16 * wordAt bytes 8) (16 * wordAt bytes 4) (samplesOf bytes)) (refusedLine (programNumber bytes)) (number ∙ z)))
+          ∙ sym (settled-done (programNumber bytes) (rows (16 * sizeIn bytes .height .0) (16 * sizeIn bytes .width .0) (samplesOf bytes)) (refusedLine (programNumber bytes)) (number ∙ z)))

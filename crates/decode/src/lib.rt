@@ -7,15 +7,14 @@ ghost use mathlib.Core.List.{_++_};
 ghost use lib.ListN.{length};
 ghost use Rattle.picture.specs.Numbers.{firstOf, settled};
 ghost use Rattle.plane_file.specs.Header.{answer};
-ghost use Rattle.plane_file.specs.Layout.{planes};
+ghost use Rattle.picture.specs.Planes.{Lengths, planes};
 ghost use Rattle.plane_file.specs.Calls.{headerAnswer};
 ghost use Rattle.plane_file.specs.Numbers.{startChecks, countIn, headerNumber};
 ghost use Rattle.decode.specs.Program.{countCheck, programNumber, planesOf, samplesOf, left};
 use inverse::inverse;
 use plane_file::header::Header;
-use plane_file::header::count;
-use plane_file::header::header_of;
 use plane_file::header::read_start;
+use plane_file::header::refused;
 use plane_file::load::load;
 
 // The header by its words, of at most 16 macroblocks: whether the bytes are as many as they say is not looked at.
@@ -26,8 +25,9 @@ fn read_small(bytes: &[u8]) -> Header
     if start.number != 0 {
         return start;
     }
-    if 16 < count(start.size) {
-        return header_of(13, 0, 0, 0);
+    let size = start.size;
+    if 16 < size.macroblocks().0 {
+        return refused(13);
     }
     start
 }
@@ -40,9 +40,11 @@ fn transform(
     high: &mut [i32],
     samples: &mut [i32],
 ) -> Header
-    requires { ⌜ (length (now dc) ≡ countIn (now bytes)) × (length (now low) ≡ 15 * countIn (now bytes)) × (length (now high) ≡ 240 * countIn (now bytes)) × (length (now samples) ≡ 256 * countIn (now bytes)) ⌝ }
+    requires { ⌜ Lengths (countIn (now bytes)) (planes (now dc) (now low) (now high)) ⌝ }
+    requires { ⌜ length (now samples) ≡ 256 * countIn (now bytes) ⌝ }
     ensures { λ r. ⌜ r ≡ headerAnswer (now (bytes .entry)) ⌝ }
-    ensures { λ _. ⌜ planes (now (dc .exit)) (now (low .exit)) (now (high .exit)) ≡ settled (headerNumber (now (bytes .entry))) (planesOf (now (bytes .entry))) (planes (now (dc .entry)) (now (low .entry)) (now (high .entry))) ⌝ }
+    ensures { λ _. ⌜ planes (now (dc .exit)) (now (low .exit)) (now (high .exit)) ≡
+        settled (headerNumber (now (bytes .entry))) (planesOf (now (bytes .entry))) (planes (now (dc .entry)) (now (low .entry)) (now (high .entry))) ⌝ }
     ensures { λ _. ⌜ now (samples .exit) ≡ settled (headerNumber (now (bytes .entry))) (samplesOf (now (bytes .entry))) (now (samples .entry)) ⌝ }
 {
     let header = load(bytes, dc, low, high);
@@ -66,14 +68,17 @@ pub fn decode(
     ensures { λ r. ⌜ r ≡ answer (programNumber (now (bytes .entry))) (now (bytes .entry)) ⌝ }
     ensures { λ _. ⌜ now (dc .exit) ≡ left (now (bytes .entry)) (countIn (now (bytes .entry))) (planesOf (now (bytes .entry)) .dc) (now (dc .entry)) ⌝ }
     ensures { λ _. ⌜ now (low .exit) ≡ left (now (bytes .entry)) (15 * countIn (now (bytes .entry))) (planesOf (now (bytes .entry)) .low) (now (low .entry)) ⌝ }
-    ensures { λ _. ⌜ now (high .exit) ≡ left (now (bytes .entry)) (240 * countIn (now (bytes .entry))) (planesOf (now (bytes .entry)) .high) (now (high .entry)) ⌝ }
-    ensures { λ _. ⌜ now (samples .exit) ≡ left (now (bytes .entry)) (256 * countIn (now (bytes .entry))) (samplesOf (now (bytes .entry))) (now (samples .entry)) ⌝ }
+    ensures { λ _. ⌜ now (high .exit) ≡
+        left (now (bytes .entry)) (240 * countIn (now (bytes .entry))) (planesOf (now (bytes .entry)) .high) (now (high .entry)) ⌝ }
+    ensures { λ _. ⌜ now (samples .exit) ≡
+        left (now (bytes .entry)) (256 * countIn (now (bytes .entry))) (samplesOf (now (bytes .entry))) (now (samples .entry)) ⌝ }
 {
     let start = read_small(bytes);
     if start.number != 0 {
         return start;
     }
-    let n = count(start.size) as usize;
+    let size = start.size;
+    let n = size.macroblocks().0 as usize;
     let lows = 15 * n;
     let highs = 240 * n;
     let all = 256 * n;

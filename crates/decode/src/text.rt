@@ -8,7 +8,6 @@ ghost use Rattle.decode.specs.Shown.{rows, shown};
 use crate::decode;
 use decimal::write_refused;
 use decimal::write_row;
-use picture::counts::Macroblocks;
 
 // Writes the row of w numbers that starts at `from` as a line at `at`, and returns how many bytes that is.
 fn write_line(numbers: &[i32], from: usize, w: usize, out: &mut [u8], at: usize) -> usize
@@ -39,14 +38,6 @@ fn write_rows(numbers: &[i32], w: usize, h: usize, out: &mut [u8]) -> usize
     at
 }
 
-// The samples along a side of a picture.
-fn samples_along(side: Macroblocks) -> usize
-    requires { ⌜ side .0 ≤ 525 ⌝ }
-    ensures { λ r. ⌜ r ≡ 16 * side .0 ⌝ }
-{
-    side.blocks().samples().0 as usize
-}
-
 // Writes what the program prints for these bytes to the front of `out`, a refusal or the picture's rows, and returns how many bytes
 // that is. 12 bytes for each of 4096 samples are always enough.
 pub fn show(bytes: &[u8], out: &mut [u8]) -> usize
@@ -62,8 +53,10 @@ pub fn show(bytes: &[u8], out: &mut [u8]) -> usize
     if header.number != 0 {
         return write_refused(header.number, out);
     }
-    let w = samples_along(header.size.width);
-    let h = samples_along(header.size.height);
+    let size = header.size;
+    let side = size.samples();
+    let w = side.width.0 as usize;
+    let h = side.height.0 as usize;
     let all = h * w;
     write_rows(&samples[..all], w, h, out)
 }

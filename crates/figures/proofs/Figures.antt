@@ -2,11 +2,12 @@
 use mathlib.Core.Path.{_≡_, refl, sym, _∙_}
 use mathlib.Core.List.{List, [], _∷_}
 use lib.Dec.{T}
-use lib.IntN.{ℤ}
-use Rattle.lifting.specs.Program.{at, run, undo, back, line, value, get, put}
+use lib.IntN.{ℤ, pos, negℤ}
+use Rattle.lifting.specs.Wrap.{wrap}
+use Rattle.lifting.specs.Program.{at, run, undo, back, line, value, get, put, _then_, Hadamard, PostHadamard}
 use Rattle.lifting.specs.Valid.{valid, undoes}
 use Rattle.figures.specs.Figures.{hadamard, odd, oddOdd, inverseReorder, forwardReorder, core, coreStages, rotation, scale, postHadamard, postOddOdd, fourFilter, squareFilter}
-use Rattle.figures.specs.Pieces.{fourRotation, pairScale}
+use Rattle.figures.specs.Pieces.{oddOddRounded, fourRotation, pairScale, quarterStage, coreMirroredStage, mirroredStage, crossedStage}
 
 pub hadamard-valid : (R : ℤ) → T (valid 4 (hadamard R))
 unfolding hadamard
@@ -39,6 +40,23 @@ inverse-undoes-forward = tt
 pub forward-undoes-inverse : T (undoes 16 forwardReorder inverseReorder)
 forward-undoes-inverse = tt
 
+-- Figure 4.6 is the shared lines with its roundings, and then two negations
+pub odd-odd-pieces : (x y z w : ℤ)
+    → let v = run (oddOddRounded (pos 3) (pos 3)) (x ∷ y ∷ z ∷ w ∷ []) in
+    at v 0 ∷ wrap (negℤ (at v 1)) ∷ wrap (negℤ (at v 2)) ∷ at v 3 ∷ [] ≡ run oddOdd (x ∷ y ∷ z ∷ w ∷ [])
+unfolding run line value oddOddRounded oddOdd
+odd-odd-pieces x y z w = refl
+
+pub undo-odd-odd-pieces : (x y z w : ℤ)
+    → undo (oddOddRounded (pos 3) (pos 3)) (x ∷ wrap (negℤ y) ∷ wrap (negℤ z) ∷ w ∷ []) ≡ undo oddOdd (x ∷ y ∷ z ∷ w ∷ [])
+unfolding undo back line value oddOddRounded oddOdd
+undo-odd-odd-pieces x y z w = refl
+
+-- Figure 4.12 is the shared lines with its roundings
+pub post-odd-odd-pieces : oddOddRounded (pos 6) (pos 2) ≡ postOddOdd
+unfolding oddOddRounded postOddOdd
+post-odd-odd-pieces = refl
+
 -- Figure 4.13 is its pieces one after the other
 pub four-filter-pieces : (x y z w : ℤ)
     → let v = run fourRotation (x ∷ y ∷ z ∷ w ∷ []) in
@@ -54,3 +72,12 @@ pub undo-four-filter-pieces : (x y z w : ℤ)
     undo fourRotation (at o 0 ∷ at i 0 ∷ at i 1 ∷ at o 1 ∷ []) ≡ undo fourFilter (x ∷ y ∷ z ∷ w ∷ [])
 unfolding undo back line value get put rotation fourRotation pairScale fourFilter
 undo-four-filter-pieces x y z w = refl
+
+-- Figures 4.8 and 4.14 are their stages one after the other
+pub core-stages : quarterStage then coreMirroredStage ≡ coreStages
+unfolding _then_ quarterStage coreMirroredStage coreStages
+core-stages = refl
+
+pub square-filter-stages : mirroredStage Hadamard (hadamard (pos 0)) then (crossedStage then mirroredStage PostHadamard postHadamard) ≡ squareFilter
+unfolding _then_ mirroredStage crossedStage squareFilter
+square-filter-stages = refl

@@ -2,7 +2,7 @@
 use Prim.Native.Nat.{ℕ}
 use mathlib.Core.Path.{_≡_}
 use mathlib.Core.List.{List, [], _∷_, _++_, map}
-use lib.ListN.{replicate}
+use lib.ListN.{length, replicate}
 use lib.IntN.{ℤ, pos, negℤ}
 use Rattle.lifting.specs.Program.{Program, run}
 use Rattle.figures.specs.Figures.{hadamard, odd, oddOdd, rotation, scale, postHadamard, core}
@@ -13,20 +13,20 @@ pub record Value : Type 0 where
   pub output : List ℤ
 
 infix 20 _on_gives_
-abbrev _on_gives_ : Program → List ℤ → List ℤ → Value
+abbrev pub _on_gives_ : Program → List ℤ → List ℤ → Value
 p on v gives w = record { operator = p; input = v; output = w }
 
-abbrev minus : ℕ → ℤ
+abbrev pub minus : ℕ → ℤ
 minus n = negℤ (pos n)
 
-abbrev two : ℤ → ℤ → List ℤ
+abbrev pub two : ℤ → ℤ → List ℤ
 two x y = x ∷ y ∷ []
 
-abbrev four : ℤ → ℤ → ℤ → ℤ → List ℤ
+abbrev pub four : ℤ → ℤ → ℤ → ℤ → List ℤ
 four x y z w = x ∷ y ∷ z ∷ w ∷ []
 
 -- blocks of zeros but for the number x as coefficient 0, and as coefficient 1
-abbrev first : ℤ → List ℤ
+abbrev pub first : ℤ → List ℤ
 first x = x ∷ replicate 15 (pos 0)
 
 abbrev second : ℤ → List ℤ
@@ -53,6 +53,10 @@ starred =
     ++ four (pos 3) (pos 1) (minus 1) (minus 3) ++ four (pos 2) (pos 1) (minus 1) (minus 3))
     ∷ []
 
--- every entry's operator gives its output
+-- a table of n values, each of which its operator gives
+pub record Hold (n : ℕ) (table : List Value) : Type 0 where
+  pub count : length table ≡ n
+  pub outputs : map (λ v. run (v .operator) (v .input)) table ≡ map (λ v. v .output) table
+
 abbrev pub StarredHold : Type 0
-StarredHold = map (λ v. run (v .operator) (v .input)) starred ≡ map (λ v. v .output) starred
+StarredHold = Hold 14 starred

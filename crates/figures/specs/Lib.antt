@@ -3,3 +3,4 @@ pub mod Figures
 pub mod Pieces
 pub mod Block
 pub mod Bench
+pub mod Reference

@@ -1,1 +1,3 @@
-pub mod Uses
+pub mod Undoing
+pub mod Edges
+pub mod Apart

@@ -1,12 +1,21 @@
--- The filters along a grid's edges, as the functions that undo them take them together.
-use Prim.Native.Nat.{ℕ, _-_, _*_}
-use Rattle.lifting.specs.Program.{Program, _then_}
-use Rattle.picture.specs.Level.{rowFilters, columnFilters}
+-- The filters along a grid's edges as the functions that undo them take them: a line of uses, each across the edge between two squares,
+-- goes along a row or down a column.
+use Prim.Native.Nat.{ℕ, _+_, _*_}
+use Rattle.lifting.specs.Program.{Program, end, apply, _then_, each, FourFilter}
+use Rattle.figures.specs.Figures.{fourFilter}
+use Rattle.picture.specs.declared.size.Size.{Size}
+use Rattle.forward_one_grid.specs.Held.{across}
 
--- the top two and bottom two rows
-unfoldable pub rows : ℕ → ℕ → Program
-rows p q = rowFilters p 0 then rowFilters p 1 then rowFilters p (4 * q - 2) then rowFilters p (4 * q - 1)
+-- Figure 4.13 on four numbers in a line across the edge between squares t and u
+unfoldable pub filterAcross : Size → ℕ → ℕ → ℕ → ℕ → Program
+filterAcross size t u l step = apply FourFilter fourFilter (across size t u l step) end
 
--- the two leftmost and two rightmost columns
-unfoldable pub columns : ℕ → ℕ → Program
-columns p q = columnFilters p q 0 then columnFilters p q 1 then columnFilters p q (4 * p - 2) then columnFilters p q (4 * p - 1)
+-- n uses, between squares `from` and from + pace, the next two, and so on
+unfoldable pub line : Size → ℕ → ℕ → ℕ → ℕ → ℕ → Program
+line size from pace l step n = each n (λ i. filterAcross size (from + pace * i) (from + pace * i + pace) l step)
+
+-- two lines at each of two edges: the first two of the squares from 0 on, and the last two of the squares from `last` on.
+-- Lines stand `side` apart; along rows that is 4 and the step 1, down columns it is 1 and the step 4.
+unfoldable pub edges : Size → ℕ → ℕ → ℕ → ℕ → ℕ → Program
+edges size last pace side step n =
+    line size 0 pace 0 step n then line size 0 pace side step n then line size last pace (2 * side) step n then line size last pace (3 * side) step n

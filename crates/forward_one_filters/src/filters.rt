@@ -1,119 +1,96 @@
-// The filters of a level undone, from the last use to the first.
+// The filters of level one undone, from the last use to the first.
 ghost use mathlib.Core.Path.{_≡_};
-ghost use Prim.Native.Nat.{_+_, _-_, _*_, _<_};
-ghost use Rattle.lifting.specs.Program.{undo, each};
-ghost use Rattle.picture.specs.Level.{cell, squareFilterAt, squareFilters, rowFilters, columnFilters, filters};
-ghost use Rattle.forward_one_filters.specs.Edges.{rows, columns};
-ghost use Rattle.forward_planes.specs.Held.{squaresAcross, squaresDown, numbersIn, Room};
-use crate::windows::undo_column_filter;
-use crate::windows::undo_row_filter;
-use crate::windows::undo_square_filter;
-use forward_planes::Grid;
-use forward_planes::across;
-use forward_planes::down;
+ghost use Prim.Native.Nat.{_+_, _*_, _<_};
+ghost use Rattle.lifting.specs.Program.{undo};
+ghost use Rattle.picture.specs.Level.{squareFilters, filters};
+ghost use Rattle.picture.specs.Sizes.{macroblocks};
+ghost use Rattle.forward_one_grid.specs.Held.{numbers, over, Held};
+ghost use Rattle.forward_one_filters.specs.Edges.{line, edges};
+ghost use Rattle.forward_one_filters.specs.Windows.{filtersOfRow};
+use crate::uses::undo_four_filter;
+use crate::windows::undo_group;
+use forward_one_grid::group;
+use picture::size::Size;
 
-// Row r of the squares in row j.
-fn undo_row_filters(
-    first: &mut [i32],
+// n uses across edges, along a row or down a column: the squares from `from` on, each `pace` after the one before, on the line of coefficient l.
+fn undo_line(
+    size: Size,
+    dc: &mut [i32],
     low: &mut [i32],
-    rest: &mut [i32],
-    grid: Grid,
-    j: usize,
-    r: usize,
+    from: usize,
+    pace: usize,
+    l: usize,
+    step: usize,
+    n: usize,
 )
-    requires { ⌜ Room grid (now first) (now low) (now rest) ⌝ }
-    requires { ⌜ j < squaresDown grid ⌝ }
-    requires { ⌜ r < 4 ⌝ }
-    ensures { λ u. ⌜ numbersIn grid (now (first .exit)) (now (low .exit)) (now (rest .exit)) ≡ undo (rowFilters (squaresAcross grid) (4 * j + r)) (numbersIn grid (now (first .entry)) (now (low .entry)) (now (rest .entry))) ⌝ }
-    ensures { λ u. ⌜ Room grid (now (first .exit)) (now (low .exit)) (now (rest .exit)) ⌝ }
+    requires { ⌜ Held size (now dc) (now low) ⌝ }
+    requires { ⌜ (from + pace * n < macroblocks size) × (l + 3 * step < 16) ⌝ }
+    ensures { λ r. ⌜ numbers size (now (dc .exit)) (now (low .exit)) ≡
+        undo (line size from pace l step n) (numbers size (now (dc .entry)) (now (low .entry))) ⌝ }
 {
-    let mut i = across(grid) - 1;
+    let mut i = n;
     while i > 0 {
         i -= 1;
-        undo_row_filter(first, low, rest, grid, j, i, r);
+        let t = from + pace * i;
+        undo_four_filter(size, dc, low, t, t + pace, l, step);
     }
 }
 
-// Column c of the squares in column i.
-fn undo_column_filters(
-    first: &mut [i32],
+// The two lines at the far edge, whose squares start at `last`, and the two at the near one: rows or columns, as `side` and `step` say.
+fn undo_edges(
+    size: Size,
+    dc: &mut [i32],
     low: &mut [i32],
-    rest: &mut [i32],
-    grid: Grid,
-    i: usize,
-    c: usize,
+    last: usize,
+    pace: usize,
+    side: usize,
+    step: usize,
+    n: usize,
 )
-    requires { ⌜ Room grid (now first) (now low) (now rest) ⌝ }
-    requires { ⌜ i < squaresAcross grid ⌝ }
-    requires { ⌜ c < 4 ⌝ }
-    ensures { λ u. ⌜ numbersIn grid (now (first .exit)) (now (low .exit)) (now (rest .exit)) ≡ undo (columnFilters (squaresAcross grid) (squaresDown grid) (4 * i + c)) (numbersIn grid (now (first .entry)) (now (low .entry)) (now (rest .entry))) ⌝ }
-    ensures { λ u. ⌜ Room grid (now (first .exit)) (now (low .exit)) (now (rest .exit)) ⌝ }
+    requires { ⌜ Held size (now dc) (now low) ⌝ }
+    requires { ⌜ (last + pace * n < macroblocks size) × (3 * side + 3 * step < 16) ⌝ }
+    ensures { λ r. ⌜ numbers size (now (dc .exit)) (now (low .exit)) ≡
+        undo (edges size last pace side step n) (numbers size (now (dc .entry)) (now (low .entry))) ⌝ }
 {
-    let mut j = down(grid) - 1;
-    while j > 0 {
-        j -= 1;
-        undo_column_filter(first, low, rest, grid, j, i, c);
-    }
+    undo_line(size, dc, low, last, pace, 3 * side, step, n);
+    undo_line(size, dc, low, last, pace, 2 * side, step, n);
+    undo_line(size, dc, low, 0, pace, side, step, n);
+    undo_line(size, dc, low, 0, pace, 0, step, n);
 }
 
 // The square filters between the squares in rows j and j + 1.
-fn undo_squares_across(first: &mut [i32], low: &mut [i32], rest: &mut [i32], grid: Grid, j: usize)
-    requires { ⌜ Room grid (now first) (now low) (now rest) ⌝ }
-    requires { ⌜ j + 1 < squaresDown grid ⌝ }
-    ensures { λ u. ⌜ numbersIn grid (now (first .exit)) (now (low .exit)) (now (rest .exit)) ≡ undo (each (squaresAcross grid - 1) (λ i. squareFilterAt (4 * squaresAcross grid) (cell (squaresAcross grid) (4 * j + 2) (4 * i + 2)))) (numbersIn grid (now (first .entry)) (now (low .entry)) (now (rest .entry))) ⌝ }
-    ensures { λ u. ⌜ Room grid (now (first .exit)) (now (low .exit)) (now (rest .exit)) ⌝ }
+fn undo_squares_across(size: Size, dc: &mut [i32], low: &mut [i32], j: usize)
+    requires { ⌜ Held size (now dc) (now low) ⌝ }
+    requires { ⌜ j + 1 < size .height .0 ⌝ }
+    ensures { λ r. ⌜ numbers size (now (dc .exit)) (now (low .exit)) ≡ undo (filtersOfRow size j) (numbers size (now (dc .entry)) (now (low .entry))) ⌝ }
 {
-    let mut i = across(grid) - 1;
+    let mut i = (size.width.0 as usize) - 1;
     while i > 0 {
-        i -= 1;
-        undo_square_filter(first, low, rest, grid, j, i);
+        let n = group(i);
+        i -= n;
+        undo_group(size, dc, low, j, i, n);
     }
 }
 
-// All square filters.
-fn undo_square_filters(first: &mut [i32], low: &mut [i32], rest: &mut [i32], grid: Grid)
-    requires { ⌜ Room grid (now first) (now low) (now rest) ⌝ }
-    ensures { λ u. ⌜ numbersIn grid (now (first .exit)) (now (low .exit)) (now (rest .exit)) ≡ undo (squareFilters (squaresAcross grid) (squaresDown grid)) (numbersIn grid (now (first .entry)) (now (low .entry)) (now (rest .entry))) ⌝ }
-    ensures { λ u. ⌜ Room grid (now (first .exit)) (now (low .exit)) (now (rest .exit)) ⌝ }
+fn undo_square_filters(size: Size, dc: &mut [i32], low: &mut [i32])
+    requires { ⌜ Held size (now dc) (now low) ⌝ }
+    ensures { λ r. ⌜ numbers size (now (dc .exit)) (now (low .exit)) ≡ undo (over size squareFilters) (numbers size (now (dc .entry)) (now (low .entry))) ⌝ }
 {
-    let mut j = down(grid) - 1;
+    let mut j = (size.height.0 as usize) - 1;
     while j > 0 {
         j -= 1;
-        undo_squares_across(first, low, rest, grid, j);
+        undo_squares_across(size, dc, low, j);
     }
 }
 
-// The two rightmost and the two leftmost columns, and then the bottom two and the top two rows.
-fn undo_columns(first: &mut [i32], low: &mut [i32], rest: &mut [i32], grid: Grid)
-    requires { ⌜ Room grid (now first) (now low) (now rest) ⌝ }
-    ensures { λ u. ⌜ numbersIn grid (now (first .exit)) (now (low .exit)) (now (rest .exit)) ≡ undo (columns (squaresAcross grid) (squaresDown grid)) (numbersIn grid (now (first .entry)) (now (low .entry)) (now (rest .entry))) ⌝ }
-    ensures { λ u. ⌜ Room grid (now (first .exit)) (now (low .exit)) (now (rest .exit)) ⌝ }
+// The two rightmost and the two leftmost columns, the bottom two and the top two rows, and then the squares.
+pub fn undo_filters(size: Size, dc: &mut [i32], low: &mut [i32])
+    requires { ⌜ Held size (now dc) (now low) ⌝ }
+    ensures { λ r. ⌜ numbers size (now (dc .exit)) (now (low .exit)) ≡ undo (over size filters) (numbers size (now (dc .entry)) (now (low .entry))) ⌝ }
 {
-    let last = across(grid) - 1;
-    undo_column_filters(first, low, rest, grid, last, 3);
-    undo_column_filters(first, low, rest, grid, last, 2);
-    undo_column_filters(first, low, rest, grid, 0, 1);
-    undo_column_filters(first, low, rest, grid, 0, 0);
-}
-
-fn undo_rows(first: &mut [i32], low: &mut [i32], rest: &mut [i32], grid: Grid)
-    requires { ⌜ Room grid (now first) (now low) (now rest) ⌝ }
-    ensures { λ u. ⌜ numbersIn grid (now (first .exit)) (now (low .exit)) (now (rest .exit)) ≡ undo (rows (squaresAcross grid) (squaresDown grid)) (numbersIn grid (now (first .entry)) (now (low .entry)) (now (rest .entry))) ⌝ }
-    ensures { λ u. ⌜ Room grid (now (first .exit)) (now (low .exit)) (now (rest .exit)) ⌝ }
-{
-    let last = down(grid) - 1;
-    undo_row_filters(first, low, rest, grid, last, 3);
-    undo_row_filters(first, low, rest, grid, last, 2);
-    undo_row_filters(first, low, rest, grid, 0, 1);
-    undo_row_filters(first, low, rest, grid, 0, 0);
-}
-
-pub fn undo_filters(first: &mut [i32], low: &mut [i32], rest: &mut [i32], grid: Grid)
-    requires { ⌜ Room grid (now first) (now low) (now rest) ⌝ }
-    ensures { λ u. ⌜ numbersIn grid (now (first .exit)) (now (low .exit)) (now (rest .exit)) ≡ undo (filters (squaresAcross grid) (squaresDown grid)) (numbersIn grid (now (first .entry)) (now (low .entry)) (now (rest .entry))) ⌝ }
-    ensures { λ u. ⌜ Room grid (now (first .exit)) (now (low .exit)) (now (rest .exit)) ⌝ }
-{
-    undo_columns(first, low, rest, grid);
-    undo_rows(first, low, rest, grid);
-    undo_square_filters(first, low, rest, grid);
+    let width = size.width.0 as usize;
+    let height = size.height.0 as usize;
+    undo_edges(size, dc, low, width - 1, width, 1, 4, height - 1);
+    undo_edges(size, dc, low, (height - 1) * width, 1, 4, 1, width - 1);
+    undo_square_filters(size, dc, low);
 }

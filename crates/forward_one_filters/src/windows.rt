@@ -1,79 +1,62 @@
-// One use of a filter in the grid of a level, undone: over four squares, or of four numbers across an edge.
+// Up to four windows side by side in level one's grid, their filters undone: they are read before any is stored, and no two overlap.
 ghost use mathlib.Core.Path.{_≡_};
-ghost use Prim.Native.Nat.{_+_, _*_, _<_};
-ghost use Rattle.lifting.specs.Program.{undo};
-ghost use Rattle.picture.specs.Level.{cell, squareFilterAt, fourFilterAt};
-ghost use Rattle.forward_planes.specs.Held.{squaresAcross, numbersIn, Room, Inside};
-use forward_planes::Grid;
-use forward_planes::column;
-use forward_planes::put_column;
-use forward_planes::put_row;
-use forward_planes::row;
-use forward_planes::window::put_window;
-use forward_planes::window::window;
-use forward_windows::undo_windows;
-use four_filter::unfiltered;
+ghost use Prim.Native.Nat.{ℕ, _+_, _*_, _<_, _≤_};
+ghost use lib.ListN.{length};
+ghost use Rattle.lifting.specs.Program.{get, undo};
+ghost use Rattle.figures.specs.Figures.{squareFilter};
+ghost use Rattle.picture.specs.Level.{square};
+ghost use Rattle.forward_one_grid.specs.Held.{numbers, Held, window};
+ghost use Rattle.forward_one_filters.specs.Windows.{filtersOn};
+use forward_four_windows::undo_four_windows;
+use forward_one_grid::window::get_window;
+use forward_one_grid::window::put_window;
 use grid::get_square;
 use grid::put_square;
+use picture::size::Size;
 
-// The window goes through arrays to the function that undoes windows of the samples too: the compiler takes the filter into that loop, and makes
-// vectors of it, only while nobody else uses the filter.
-pub fn undo_square_filter(
-    first: &mut [i32],
-    low: &mut [i32],
-    rest: &mut [i32],
-    grid: Grid,
-    j: usize,
-    i: usize,
-)
-    requires { ⌜ Room grid (now first) (now low) (now rest) ⌝ }
-    requires { ⌜ Inside grid (j + 1) (i + 1) ⌝ }
-    ensures { λ u. ⌜ numbersIn grid (now (first .exit)) (now (low .exit)) (now (rest .exit)) ≡ undo (squareFilterAt (4 * squaresAcross grid) (cell (squaresAcross grid) (4 * j + 2) (4 * i + 2))) (numbersIn grid (now (first .entry)) (now (low .entry)) (now (rest .entry))) ⌝ }
-    ensures { λ u. ⌜ Room grid (now (first .exit)) (now (low .exit)) (now (rest .exit)) ⌝ }
+// Windows (j, i) to (j, i + n - 1), side by side in an array of 16 columns.
+fn get_windows(size: Size, dc: &[i32], low: &[i32], j: usize, i: usize, n: usize, held: &mut [i32])
+    requires { ⌜ Held size (now dc) (now low) ⌝ }
+    requires { ⌜ (j + 1 < size .height .0) × (i + n < size .width .0) × (n ≤ 4) × (length (now held) ≡ 64) ⌝ }
+    ensures { λ r. ⌜ ((l : ℕ) → l < n → get (square 16 (4 * l)) (now (held .exit)) ≡ get (window size j (i + l)) (numbers size (now (dc .entry)) (now (low .entry)))) ⌝ }
 {
-    let filtered = window(first, low, rest, grid, j, i);
-    let mut held = [0i32; 16];
-    put_square(&mut held, 4, 0, filtered);
-    let mut out = [0i32; 16];
-    undo_windows(&held, 4, 0, 1, &mut out);
-    let b = get_square(&out, 4, 0);
-    put_window(first, low, rest, grid, j, i, b);
+    for l in 0..n {
+        put_square(held, 16, 4 * l, get_window(size, dc, low, j, i + l));
+    }
 }
 
-pub fn undo_row_filter(
-    first: &mut [i32],
+// The same windows, from the last to the first, as they stand undone side by side in `out`, which has 72 columns.
+fn put_windows(
+    size: Size,
+    dc: &mut [i32],
     low: &mut [i32],
-    rest: &mut [i32],
-    grid: Grid,
     j: usize,
     i: usize,
-    r: usize,
+    n: usize,
+    out: &[i32],
 )
-    requires { ⌜ Room grid (now first) (now low) (now rest) ⌝ }
-    requires { ⌜ Inside grid j (i + 1) ⌝ }
-    requires { ⌜ r < 4 ⌝ }
-    ensures { λ u. ⌜ numbersIn grid (now (first .exit)) (now (low .exit)) (now (rest .exit)) ≡ undo (fourFilterAt 1 (cell (squaresAcross grid) (4 * j + r) (4 * i + 2))) (numbersIn grid (now (first .entry)) (now (low .entry)) (now (rest .entry))) ⌝ }
-    ensures { λ u. ⌜ Room grid (now (first .exit)) (now (low .exit)) (now (rest .exit)) ⌝ }
+    requires { ⌜ Held size (now dc) (now low) ⌝ }
+    requires { ⌜ (j + 1 < size .height .0) × (i + n < size .width .0) × (n ≤ 4) × (length (now out) ≡ 288) ⌝ }
+    requires { ⌜ ((l : ℕ) → l < n → get (square 72 (4 * l)) (now out) ≡ undo squareFilter (get (window size j (i + l)) (numbers size (now dc) (now low)))) ⌝ }
+    ensures { λ r. ⌜ numbers size (now (dc .exit)) (now (low .exit)) ≡ undo (filtersOn size j i n) (numbers size (now (dc .entry)) (now (low .entry))) ⌝ }
 {
-    let v = unfiltered(row(first, low, rest, grid, j, i, r));
-    put_row(first, low, rest, grid, j, i, r, v);
+    let mut l = n;
+    while l > 0 {
+        l -= 1;
+        put_window(size, dc, low, j, i + l, get_square(out, 72, 4 * l));
+    }
 }
 
-pub fn undo_column_filter(
-    first: &mut [i32],
-    low: &mut [i32],
-    rest: &mut [i32],
-    grid: Grid,
-    j: usize,
-    i: usize,
-    c: usize,
-)
-    requires { ⌜ Room grid (now first) (now low) (now rest) ⌝ }
-    requires { ⌜ Inside grid (j + 1) i ⌝ }
-    requires { ⌜ c < 4 ⌝ }
-    ensures { λ u. ⌜ numbersIn grid (now (first .exit)) (now (low .exit)) (now (rest .exit)) ≡ undo (fourFilterAt (4 * squaresAcross grid) (cell (squaresAcross grid) (4 * j + 2) (4 * i + c))) (numbersIn grid (now (first .entry)) (now (low .entry)) (now (rest .entry))) ⌝ }
-    ensures { λ u. ⌜ Room grid (now (first .exit)) (now (low .exit)) (now (rest .exit)) ⌝ }
+// The function that undoes the windows undoes those of the samples too: the compiler takes the filter into its loop, and makes vectors of it,
+// only while nobody else uses the filter.
+pub fn undo_group(size: Size, dc: &mut [i32], low: &mut [i32], j: usize, i: usize, n: usize)
+    requires { ⌜ Held size (now dc) (now low) ⌝ }
+    requires { ⌜ (j + 1 < size .height .0) × (i + n < size .width .0) × (n ≤ 4) ⌝ }
+    ensures { λ r. ⌜ numbers size (now (dc .exit)) (now (low .exit)) ≡ undo (filtersOn size j i n) (numbers size (now (dc .entry)) (now (low .entry))) ⌝ }
 {
-    let v = unfiltered(column(first, low, rest, grid, j, i, c));
-    put_column(first, low, rest, grid, j, i, c, v);
+    let mut held = [0i32; 64];
+    get_windows(size, dc, low, j, i, n, &mut held);
+    let mut out = [0i32; 288];
+    undo_four_windows(&held, 16, 0, &mut out, 0);
+    put_windows(size, dc, low, j, i, n, &out);
 }

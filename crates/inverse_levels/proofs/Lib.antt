@@ -1,1 +1,4 @@
 pub mod Loops
+pub mod Filled
+pub mod Side
+pub mod Stages

@@ -1,9 +1,8 @@
 // The C interface: one exported function for each operation, with the operation's own promises.
 ghost use mathlib.Core.Path.{_≡_};
-ghost use lib.ListN.{length};
+ghost use Rattle.picture.specs.Planes.{planes};
 ghost use Rattle.picture.specs.Numbers.{settled, inverseNumber, forwardNumber, quarterNumber};
-ghost use Rattle.picture.specs.Transform.{inverse as samplesOf, forward as forwardPlanes, quarter};
-ghost use Rattle.plane_file.specs.Layout.{planes};
+ghost use Rattle.picture.specs.Transform.{inverse as samplesOf, forward as planesOf, quarter};
 ghost use Rattle.plane_file.specs.Numbers.{saveNumber};
 ghost use Rattle.plane_file.specs.Calls.{headerAnswer, loadAnswer, loaded, saved};
 use forward::forward;
@@ -24,8 +23,9 @@ pub extern "C" fn lapped_inverse(
     high: &[i32],
     samples: &mut [i32],
 ) -> u32
-    ensures { λ r. ⌜ r ≡ inverseNumber mode (size .width .0) (size .height .0) (length (now (dc .entry))) (length (now (low .entry))) (length (now (high .entry))) (length (now (samples .entry))) ⌝ }
-    ensures { λ r. ⌜ now (samples .exit) ≡ settled r (samplesOf mode (size .width .0) (size .height .0) (record { dc = now (dc .entry); low = now (low .entry); high = now (high .entry) })) (now (samples .entry)) ⌝ }
+    ensures { λ r. ⌜ r ≡ inverseNumber mode size (planes (now (dc .entry)) (now (low .entry)) (now (high .entry))) (now (samples .entry)) ⌝ }
+    ensures { λ r. ⌜ now (samples .exit) ≡
+        settled r (samplesOf mode size (planes (now (dc .entry)) (now (low .entry)) (now (high .entry)))) (now (samples .entry)) ⌝ }
 {
     inverse(mode, size, dc, low, high, samples)
 }
@@ -38,8 +38,8 @@ pub extern "C" fn lapped_quarter(
     low: &[i32],
     view: &mut [i32],
 ) -> u32
-    ensures { λ r. ⌜ r ≡ quarterNumber mode (size .width .0) (size .height .0) (length (now (dc .entry))) (length (now (low .entry))) (length (now (view .entry))) ⌝ }
-    ensures { λ r. ⌜ now (view .exit) ≡ settled r (quarter mode (size .width .0) (size .height .0) (now (dc .entry)) (now (low .entry))) (now (view .entry)) ⌝ }
+    ensures { λ r. ⌜ r ≡ quarterNumber mode size (now (dc .entry)) (now (low .entry)) (now (view .entry)) ⌝ }
+    ensures { λ r. ⌜ now (view .exit) ≡ settled r (quarter mode size (now (dc .entry)) (now (low .entry))) (now (view .entry)) ⌝ }
 {
     quarter_view(mode, size, dc, low, view)
 }
@@ -53,10 +53,9 @@ pub extern "C" fn lapped_forward(
     low: &mut [i32],
     high: &mut [i32],
 ) -> u32
-    ensures number { λ r. ⌜ r ≡ forwardNumber mode (size .width .0) (size .height .0) (length (now (samples .entry))) (length (now (dc .entry))) (length (now (low .entry))) (length (now (high .entry))) ⌝ }
-    ensures dc { λ r. ⌜ now (dc .exit) ≡ settled r ((forwardPlanes mode (size .width .0) (size .height .0) (now (samples .entry))) .dc) (now (dc .entry)) ⌝ }
-    ensures low { λ r. ⌜ now (low .exit) ≡ settled r ((forwardPlanes mode (size .width .0) (size .height .0) (now (samples .entry))) .low) (now (low .entry)) ⌝ }
-    ensures high { λ r. ⌜ now (high .exit) ≡ settled r ((forwardPlanes mode (size .width .0) (size .height .0) (now (samples .entry))) .high) (now (high .entry)) ⌝ }
+    ensures { λ r. ⌜ r ≡ forwardNumber mode size (now (samples .entry)) (planes (now (dc .entry)) (now (low .entry)) (now (high .entry))) ⌝ }
+    ensures { λ r. ⌜ planes (now (dc .exit)) (now (low .exit)) (now (high .exit)) ≡
+        settled r (planesOf mode size (now (samples .entry))) (planes (now (dc .entry)) (now (low .entry)) (now (high .entry))) ⌝ }
 {
     forward(mode, size, samples, dc, low, high)
 }
@@ -76,7 +75,8 @@ pub extern "C" fn lapped_load(
     high: &mut [i32],
 ) -> Header
     ensures { λ r. ⌜ r ≡ loadAnswer (now (bytes .entry)) (planes (now (dc .entry)) (now (low .entry)) (now (high .entry))) ⌝ }
-    ensures { λ _. ⌜ planes (now (dc .exit)) (now (low .exit)) (now (high .exit)) ≡ loaded (now (bytes .entry)) (planes (now (dc .entry)) (now (low .entry)) (now (high .entry))) ⌝ }
+    ensures { λ _. ⌜ planes (now (dc .exit)) (now (low .exit)) (now (high .exit)) ≡
+        loaded (now (bytes .entry)) (planes (now (dc .entry)) (now (low .entry)) (now (high .entry))) ⌝ }
 {
     load(bytes, dc, low, high)
 }
@@ -90,8 +90,8 @@ pub extern "C" fn lapped_save(
     high: &[i32],
     bytes: &mut [u8],
 ) -> u32
-    ensures { λ r. ⌜ r ≡ saveNumber mode (size .width .0) (size .height .0) (planes (now (dc .entry)) (now (low .entry)) (now (high .entry))) (now (bytes .entry)) ⌝ }
-    ensures { λ _. ⌜ now (bytes .exit) ≡ saved mode (size .width .0) (size .height .0) (planes (now (dc .entry)) (now (low .entry)) (now (high .entry))) (now (bytes .entry)) ⌝ }
+    ensures { λ r. ⌜ r ≡ saveNumber mode size (planes (now (dc .entry)) (now (low .entry)) (now (high .entry))) (now (bytes .entry)) ⌝ }
+    ensures { λ _. ⌜ now (bytes .exit) ≡ saved mode size (planes (now (dc .entry)) (now (low .entry)) (now (high .entry))) (now (bytes .entry)) ⌝ }
 {
     save(mode, size, dc, low, high, bytes)
 }

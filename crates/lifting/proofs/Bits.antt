@@ -84,6 +84,9 @@ pub record Sum (z : ℤ) : Type 0 where
 pub to64 : {z : ℤ} → Sum z → SFits w64 z
 to64 n = record { sfits = omega (arith, n .near) }
 
+pub near-held : (z : ℤ) → Sum z → mag (toZ w64 (ofZ w64 z)) < 6442450944
+near-held z n = rw (toZ-ofZ w64 z (to64 n)) (n .near)
+
 pub add-near : (a b : ℤ) → SFits w32 a → SFits w32 b → Sum (a +ℤ b)
 add-near a b f g = record { near = omega (arith, mag-add a b, f .sfits, g .sfits) }
 

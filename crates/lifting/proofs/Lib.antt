@@ -5,3 +5,4 @@ pub mod Reverse
 pub mod Between
 pub mod Locality
 pub mod Uses
+pub mod Values

@@ -2,9 +2,12 @@
 ghost use mathlib.Core.Path.{_≡_};
 ghost use mathlib.Core.List.{[], _∷_};
 ghost use Rattle.lifting.specs.Program.{run, undo};
+ghost use Rattle.figures.specs.Block.{list};
 ghost use Rattle.figures.specs.Figures.{rotation as rotationLines, scale as scaleLines, postHadamard as postHadamardLines, postOddOdd as postOddOddLines};
 use core_operators::steps::rounded;
 use core_operators::steps::scaled;
+use core_operators::transform::odd_odd_rounded;
+use core_operators::transform::undo_odd_odd_rounded;
 use figures::Four;
 use figures::Pair;
 use lifting::add;
@@ -52,9 +55,13 @@ pub fn undo_scale(a: i32, b: i32) -> Pair
 }
 
 // Figure 4.11
-pub fn post_hadamard(a: i32, b: i32, c: i32, d: i32) -> Four
-    ensures { λ o. ⌜ o .a ∷ o .b ∷ o .c ∷ o .d ∷ [] ≡ run postHadamardLines (a ∷ b ∷ c ∷ d ∷ []) ⌝ }
+pub fn post_hadamard(v: Four) -> Four
+    ensures { λ o. ⌜ list o ≡ run postHadamardLines (list v) ⌝ }
 {
+    let a = v.a;
+    let b = v.b;
+    let c = v.c;
+    let d = v.d;
     let b1 = sub(b, c);
     let a1 = add(a, scaled(d, 4, 3));
     let c1 = sub(d, shift(b1, 1));
@@ -70,9 +77,13 @@ pub fn post_hadamard(a: i32, b: i32, c: i32, d: i32) -> Four
 }
 
 // Figure 4.11 undone
-pub fn undo_post_hadamard(a: i32, b: i32, c: i32, d: i32) -> Four
-    ensures { λ o. ⌜ o .a ∷ o .b ∷ o .c ∷ o .d ∷ [] ≡ undo postHadamardLines (a ∷ b ∷ c ∷ d ∷ []) ⌝ }
+pub fn undo_post_hadamard(v: Four) -> Four
+    ensures { λ o. ⌜ list o ≡ undo postHadamardLines (list v) ⌝ }
 {
+    let a = v.a;
+    let b = v.b;
+    let c = v.c;
+    let d = v.d;
     let b1 = sub(b, c);
     let a1 = add(a, d);
     let c1 = sub(shift(sub(a1, b1), 1), d);
@@ -88,51 +99,15 @@ pub fn undo_post_hadamard(a: i32, b: i32, c: i32, d: i32) -> Four
 }
 
 // Figure 4.12
-pub fn post_odd_odd(a: i32, b: i32, c: i32, d: i32) -> Four
-    ensures { λ o. ⌜ o .a ∷ o .b ∷ o .c ∷ o .d ∷ [] ≡ run postOddOddLines (a ∷ b ∷ c ∷ d ∷ []) ⌝ }
+pub fn post_odd_odd(v: Four) -> Four
+    ensures { λ o. ⌜ list o ≡ run postOddOddLines (list v) ⌝ }
 {
-    let d1 = add(d, a);
-    let c1 = sub(c, b);
-    let t1 = shift(d1, 1);
-    let t2 = shift(c1, 1);
-    let a1 = sub(a, t1);
-    let b1 = add(b, t2);
-    let a2 = sub(a1, scaled(b1, 6, 3));
-    let b2 = add(b1, scaled(a2, 2, 2));
-    let a3 = sub(a2, scaled(b2, 4, 3));
-    let b3 = sub(b2, t2);
-    let a4 = add(a3, t1);
-    let c2 = add(c1, b3);
-    let d2 = sub(d1, a4);
-    Four {
-        a: a4,
-        b: b3,
-        c: c2,
-        d: d2,
-    }
+    odd_odd_rounded(v, 6, 2)
 }
 
 // Figure 4.12 undone
-pub fn undo_post_odd_odd(a: i32, b: i32, c: i32, d: i32) -> Four
-    ensures { λ o. ⌜ o .a ∷ o .b ∷ o .c ∷ o .d ∷ [] ≡ undo postOddOddLines (a ∷ b ∷ c ∷ d ∷ []) ⌝ }
+pub fn undo_post_odd_odd(v: Four) -> Four
+    ensures { λ o. ⌜ list o ≡ undo postOddOddLines (list v) ⌝ }
 {
-    let d1 = add(d, a);
-    let c1 = sub(c, b);
-    let t1 = shift(d1, 1);
-    let t2 = shift(c1, 1);
-    let a1 = sub(a, t1);
-    let b1 = add(b, t2);
-    let a2 = add(a1, scaled(b1, 4, 3));
-    let b2 = sub(b1, scaled(a2, 2, 2));
-    let a3 = add(a2, scaled(b2, 6, 3));
-    let b3 = sub(b2, t2);
-    let a4 = add(a3, t1);
-    let c2 = add(c1, b3);
-    let d2 = sub(d1, a4);
-    Four {
-        a: a4,
-        b: b3,
-        c: c2,
-        d: d2,
-    }
+    undo_odd_odd_rounded(v, 6, 2)
 }

@@ -10,6 +10,7 @@ pub mod Cells
 pub mod Part
 pub mod LevelPart
 pub mod Windows
+pub mod WholePictures
 pub mod Squares
 pub mod Alone
 pub mod Sanity

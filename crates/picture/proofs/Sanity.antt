@@ -1,17 +1,33 @@
 -- The definitions at small pictures: bench values of 01, how far a DC number reaches, and grids of one column or one row of squares. The pictures are computed.
-use Prim.Native.Nat.{ℕ, zero, suc, _+_, _-_, _*_, _/_, _%_}
-use mathlib.Core.Path.{_≡_, refl}
+use Prim.Native.Nat.{ℕ, zero, suc, _+_, _-_, _*_, _/_, _%_, _≤_, _<_}
+use mathlib.Core.Path.{_≡_, refl, sym, subst}
 use mathlib.Core.Bool.{Bool, true, false, cond, _&&_, _||_, Bool·beq}
 use mathlib.Core.List.{List, [], _∷_}
-use lib.Dec.{T, eqb, leb, ltb}
+use native.Mathlib.Omega.{arith}
+use lib.Dec.{T, eqb, leb, ltb, lit<}
+use lib.ListN.{set}
+use lib.Seq.{getD-set-other}
 use lib.IntN.{ℤ, pos, negsuc}
+use mir.Val.{SFits}
+use mir.Syntax.{w32}
+use Rattle.lifting.specs.Row.{Row}
 use Rattle.lifting.specs.Wrap.{wrap}
 use Rattle.lifting.specs.Program.{Program, end, _⨾_, reorder, apply, at, run, line, value, get, put, _then_, each}
 use Rattle.figures.specs.Figures.{hadamard, odd, oddOdd, core, coreStages, rotation, scale, postHadamard, postOddOdd, fourFilter, squareFilter}
+use Rattle.picture.specs.declared.size.Size.{Size}
 use Rattle.picture.specs.Level.{square, coreAt, squareFilterAt, fourFilterAt, cores, squareFilters, rowFilters, columnFilters, filters, level}
-use Rattle.picture.specs.Planes.{Planes, table, grid, firstGrid, secondGrid}
-use Rattle.picture.specs.Transform.{quarter, inverse}
+use Rattle.picture.specs.Modes.{modeOf}
+use Rattle.picture.specs.Planes.{Planes, PlanesOf, table, grid, blockOrder, firstGrid, secondGrid}
+use Rattle.picture.specs.Windows.{highMargin, lowMargin}
+use Rattle.picture.specs.Claims.{Shape}
+use Rattle.picture.specs.Transform.{quarterBy, inverseBy, inverse, forward}
 use Rattle.picture.proofs.Alone.{then-end}
+use Rattle.picture.proofs.Table.{row-table}
+use Rattle.picture.proofs.OnePlanes.{row-inverse}
+use Rattle.picture.proofs.WholePictures.{whole-pictures}
+
+abbrev of : ℕ → ℕ → Size
+of W H = record { width = record { 0 = W }; height = record { 0 = H } }
 
 -- planes with these DC numbers and the rest 0
 abbrev dcOnly : ℕ → List ℤ → Planes
@@ -29,8 +45,8 @@ isSample r c = (eqb r 0 && eqb c 1) || (eqb r 1 && eqb c 0) || (eqb r 1 && eqb c
 abbrev nineOnes : ℕ → ℕ → ℤ
 nineOnes y x = cond (isBlock (y / 4 * 4 + x / 4) && isSample (y % 4) (x % 4)) (pos 1) (pos 0)
 
-pub bench : (inverse 0 1 1 (dcOnly 1 (pos 1 ∷ [])) ≡ table 256 (λ i. nineOnes (i / 16) (i % 16))) × (inverse 0 1 1 (dcOnly 1 (pos 64 ∷ [])) ≡ table 256 (λ i. pos 4))
-unfolding wrap run line value get put _then_ each hadamard odd oddOdd core coreStages square coreAt cores level table grid firstGrid secondGrid quarter inverse
+pub bench : (inverse 0 (of 1 1) (dcOnly 1 (pos 1 ∷ [])) ≡ table 256 (λ i. nineOnes (i / 16) (i % 16))) × (inverse 0 (of 1 1) (dcOnly 1 (pos 64 ∷ [])) ≡ table 256 (λ i. pos 4))
+unfolding wrap run line value get put _then_ each hadamard odd oddOdd core coreStages square coreAt cores level table grid firstGrid secondGrid quarterBy inverseBy
 bench = (refl, refl)
 
 -- ---- how far a DC number reaches over the edge of its macroblock: as far as the windows of 01 say, and no less
@@ -48,23 +64,68 @@ abbrev every : ℕ → (ℕ → Bool) → Bool
 every zero f = true
 every (suc n) f = f n && every n f
 
--- 2 x 1, modes 1 and 2: the columns that change with the DC number of the left macroblock are those of the macroblock itself and 2 or 10 beyond
+-- 2 x 1, modes 1 and 2: the columns that change with the DC number of the left macroblock are those of its window
 abbrev left : ℕ → List ℤ
-left mode = inverse mode 2 1 (dcOnly 2 (pos 4096 ∷ pos 0 ∷ []))
+left mode = inverse mode (of 2 1) (dcOnly 2 (pos 4096 ∷ pos 0 ∷ []))
 
 abbrev columnsBelow : ℕ → List ℤ → Bool
 columnsBelow c samples = every 32 (λ x. Bool·beq (some 16 (λ y. changed (at samples (y * 32 + x)))) (ltb x c))
 
--- 1 x 2, mode 2: the rows that change with the DC number of the lower macroblock are its own and 10 above
+-- 1 x 2, mode 2: the rows that change with the DC number of the lower macroblock are those of its window
 abbrev lower : List ℤ
-lower = inverse 2 1 2 (dcOnly 2 (pos 0 ∷ pos 4096 ∷ []))
+lower = inverse 2 (of 1 2) (dcOnly 2 (pos 0 ∷ pos 4096 ∷ []))
 
 abbrev rowsFrom : ℕ → List ℤ → Bool
 rowsFrom r samples = every 32 (λ y. Bool·beq (some 16 (λ x. changed (at samples (y * 16 + x)))) (leb r y))
 
-pub reached : T (columnsBelow 18 (left 1) && columnsBelow 26 (left 2) && rowsFrom 6 lower)
-unfolding wrap run line value get put _then_ each hadamard odd oddOdd core coreStages rotation scale postHadamard postOddOdd fourFilter squareFilter square coreAt squareFilterAt fourFilterAt cores squareFilters rowFilters columnFilters filters level table grid firstGrid secondGrid quarter inverse
+-- 1 x 1, mode 1: the columns that change with a high-pass number of block 5, whose own are 4 to 7, are those of its window
+abbrev inner : List ℤ
+inner = inverse 1 (of 1 1) (record { dc = table 1 (λ i. pos 0); low = table 15 (λ i. pos 0); high = set (table 240 (λ i. pos 0)) 75 (pos 4096) })
+
+abbrev columnsBetween : ℕ → ℕ → List ℤ → Bool
+columnsBetween a b samples = every 16 (λ x. Bool·beq (some 16 (λ y. changed (at samples (y * 16 + x)))) (leb a x && ltb x b))
+
+pub reached : T (columnsBelow (16 + lowMargin 1) (left 1) && columnsBelow (16 + lowMargin 2) (left 2) && rowsFrom (16 - lowMargin 2) lower && columnsBetween (4 - highMargin 1) (8 + highMargin 1) inner)
+unfolding wrap run line value get put _then_ each hadamard odd oddOdd core coreStages rotation scale postHadamard postOddOdd fourFilter squareFilter square coreAt squareFilterAt fourFilterAt cores squareFilters rowFilters columnFilters filters level table grid firstGrid secondGrid quarterBy inverseBy
 reached = tt
+
+-- ---- each half of the claim over whole pictures, cited at a concrete place
+
+small-shape : (mode W H : ℕ) → mode ≤ 2 → 0 < W → W ≤ 2 → 0 < H → H ≤ 2 → Shape mode (of W H)
+small-shape mode W H h a b c d = record { known = h; sized = record { wide = a; most-wide = omega arith; tall = c; most-tall = omega arith } }
+
+zero-row : (n : ℕ) → Row n (table n (λ i. pos 0))
+zero-row n = row-table n _ (λ i l. record { sfits = lit< tt })
+
+-- the nine ones of the bench value have the planes that give them, and `forward` finds these
+one-dc : PlanesOf (of 1 1) (dcOnly 1 (pos 1 ∷ []))
+one-dc = record { dc = record { len = refl; fit = fit }; low = zero-row 15; high = zero-row 240 }
+  where
+    fit : (i : ℕ) → SFits w32 (at (pos 1 ∷ []) i)
+    fit zero = record { sfits = lit< tt }
+    fit (suc i) = record { sfits = lit< tt }
+
+pub found : forward 0 (of 1 1) (table 256 (λ i. nineOnes (i / 16) (i % 16))) ≡ dcOnly 1 (pos 1 ∷ [])
+found =
+    let shape = small-shape 0 1 1 (omega arith) (omega arith) (omega arith) (omega arith) (omega arith) in
+    let row = subst (Row 256) (bench .0) (row-inverse (modeOf 0) (of 1 1) (shape .sized) one-dc) in
+    sym (whole-pictures 0 (of 1 1) shape .one-set _ row .only (dcOnly 1 (pos 1 ∷ [])) one-dc (bench .0))
+
+-- 2 x 2: the high-pass numbers of the first block do not reach the last sample, in any mode
+abbrev nothing : Planes
+nothing = dcOnly 4 (table 4 (λ i. pos 0))
+
+abbrev edited : Planes
+edited = record { dc = nothing .dc; low = nothing .low; high = set (nothing .high) 0 (pos 4096) }
+
+narrow : (mode : ℕ) → highMargin mode ≤ 2
+narrow zero = omega arith
+narrow (suc mode) = omega arith
+
+pub unreached : (mode : ℕ) → mode ≤ 2 → at (inverse mode (of 2 2) nothing) (31 * 32 + 31) ≡ at (inverse mode (of 2 2) edited) (31 * 32 + 31)
+unreached mode h =
+    whole-pictures mode (of 2 2) (small-shape mode 2 2 h (omega arith) (omega arith) (omega arith) (omega arith)) .windows nothing edited 31 31 (omega arith)
+    (record { blocks = λ b l n w. n (λ k m. sym (getD-set-other (nothing .high) 0 (15 * blockOrder 2 b + k) (pos 4096) (pos 0) (λ e. omega (arith, e, w .row .high, narrow mode)))); macroblocks = λ m l n w. n (refl, λ k l. refl) })
 
 -- ---- a grid of one column of squares has four edge columns, each filtered once, and a grid of one row of squares four edge rows
 

@@ -14,9 +14,12 @@ use lib.IntN.{ℤ, ℤ-discrete}
 use Rattle.lifting.specs.Program.{at, run}
 use Rattle.picture.specs.Level.{cell, level}
 use Rattle.picture.specs.Planes.{Planes, grid, coefficients, firstGrid, secondGrid}
-use Rattle.picture.specs.Transform.{filtersOne, filtersTwo, quarter, inverse}
+use Rattle.picture.specs.declared.size.Size.{Size}
+use Rattle.picture.specs.Sizes.{Sized, macroblocks}
+use Rattle.picture.specs.Modes.{filtersOne, filtersTwo}
+use Rattle.picture.specs.Transform.{quarterBy, quarter, inverseBy, inverse}
 use Rattle.picture.specs.Windows.{Near, Window, highMargin, lowMargin, BlockWindow, MacroblockWindow, AlikeInBlock, AlikeInMacroblock, InNoWindow}
-use Rattle.picture.specs.Claims.{Shape, ChangesStayInWindows}
+use Rattle.picture.specs.Claims.{Shape}
 use Rattle.picture.proofs.LevelPart.{reach, level-on-part}
 
 -- ---- one level
@@ -54,7 +57,13 @@ pub same-coefficients : {a b : ℤ} {f g : ℕ → ℤ} → a ≡ b → ((k : �
 same-coefficients e h zero l = e
 same-coefficients e h (suc k) l = h k (omega arith)
 
-module _ {mode W H : ℕ} (shape : Shape mode W H) (s t : Planes) (y x : ℕ) (out : InNoWindow mode W H s t y x) where
+module _ {mode : ℕ} {size : Size} (shape : Shape mode size) (s t : Planes) (y x : ℕ) (out : InNoWindow mode size s t y x) where
+  abbrev W : ℕ
+  W = size .width .0
+
+  abbrev H : ℕ
+  H = size .height .0
+
   block-alike : (b : ℕ) → b < 16 * (W * H) → BlockWindow mode W b y x → AlikeInBlock W s t b
   block-alike b l w = dec→stable (all-below? 15 (λ k. ℤ-discrete _ _)) (λ n. out .blocks b l n w)
 
@@ -62,8 +71,8 @@ module _ {mode W H : ℕ} (shape : Shape mode W H) (s t : Planes) (y x : ℕ) (o
   macroblock-alike m l w = dec→stable (Dec·and (ℤ-discrete _ _) (all-below? 15 (λ k. ℤ-discrete _ _))) (λ n. out .macroblocks m l n w)
 
   -- the first number of a block in whose window the sample lies
-  view-alike : (b : ℕ) → b < 16 * (W * H) → BlockWindow mode W b y x → at (quarter mode W H (s .dc) (s .low)) b ≡ at (quarter mode W H (t .dc) (t .low)) b
-  unfolding quarter firstGrid
+  view-alike : (b : ℕ) → b < 16 * (W * H) → BlockWindow mode W b y x → at (quarter mode size (s .dc) (s .low)) b ≡ at (quarter mode size (t .dc) (t .low)) b
+  unfolding quarterBy firstGrid
   view-alike b low w = rw (div-add-mod' b (4 * W)) at e
     where
       alike : (m : ℕ) → m < W * H → Window (reach (filtersOne mode)) 4 (4 * (m / W)) (4 * (m % W)) (b / (4 * W)) (b % (4 * W)) → AlikeInMacroblock s t m
@@ -72,18 +81,12 @@ module _ {mode W H : ℕ} (shape : Shape mode W H) (s t : Planes) (y x : ℕ) (o
           let v = rw hi at w in
           macroblock-alike m l (rw lo (record { row = near-near _ _ (m / W) (b / (4 * W)) y (u .row) (v .row); column = near-near _ _ (m % W) (b % (4 * W)) x (u .column) (v .column) }))
 
-      e : at (quarter mode W H (s .dc) (s .low)) (cell W (b / (4 * W)) (b % (4 * W))) ≡ at (quarter mode W H (t .dc) (t .low)) (cell W (b / (4 * W)) (b % (4 * W)))
+      e : at (quarter mode size (s .dc) (s .low)) (cell W (b / (4 * W)) (b % (4 * W))) ≡ at (quarter mode size (t .dc) (t .low)) (cell W (b / (4 * W)) (b % (4 * W)))
       e = level-on-grids W H (b / (4 * W)) (b % (4 * W)) (div-lt-iff-lt-mul {k = 4 * W} (omega arith) .1 (omega arith)) (mod-lt b (omega arith)) (filtersOne mode) _ _ (λ m l u. same-coefficients (alike m l u .0) (alike m l u .1))
 
-  sample-alike : y < 16 * H → x < 16 * W → at (inverse mode W H s) (cell (4 * W) y x) ≡ at (inverse mode W H t) (cell (4 * W) y x)
-  unfolding inverse secondGrid
+  pub sample-alike : y < 16 * H → x < 16 * W → at (inverse mode size s) (cell (4 * W) y x) ≡ at (inverse mode size t) (cell (4 * W) y x)
+  unfolding inverseBy secondGrid
   sample-alike tall h =
       level-on-grids (4 * W) (4 * H) y x (omega arith) (omega arith) (filtersTwo mode) _ _ (λ b l u.
       let w = rw (← (margins mode (shape .known) .0)) at u in
       same-coefficients (view-alike b (omega arith) w) (block-alike b (omega arith) w))
-
-pub changes-stay-in-windows : ChangesStayInWindows
-changes-stay-in-windows mode W H shape s t hs ht y x hy hx out = rw fourfold (sample-alike shape s t y x out hy hx)
-  where
-    fourfold : 16 * W ≡ 4 * (4 * W)
-    fourfold = omega arith

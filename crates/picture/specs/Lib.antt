@@ -1,8 +1,8 @@
 pub mod Sizes
+pub mod Modes
 pub mod Level
 pub mod Planes
 pub mod Transform
-pub mod Modes
 pub mod Windows
 pub mod Claims
 pub mod Numbers

@@ -1,20 +1,36 @@
 -- What a mode's number chooses: the mode that filters the levels of `filtersOne` and `filtersTwo`, up to 2; above, none (01, "Both levels").
-use Prim.Native.Nat.{ℕ}
+use Prim.Native.Nat.{ℕ, zero, suc}
 use mathlib.Core.Bool.{Bool, true, false}
 use lib.Dec.{leb}
 use Rattle.picture.specs.declared.mode.Mode.{Mode}
 use Rattle.picture.specs.declared.mode.ModeAnswer.{ModeAnswer}
 use Rattle.picture.specs.declared.mode.ModeAnswer.the-variants.{Known, Unknown}
-use Rattle.picture.specs.Transform.{filtersOne, filtersTwo}
+use Rattle.picture.specs.declared.checks.Checked.{Checked}
+use Rattle.picture.specs.declared.checks.Checked.the-variants.{Ready, Refused}
+
+-- mode 0 filters no level, mode 1 only level two, mode 2 both
+abbrev pub filtersOne : ℕ → Bool
+filtersOne mode = leb 2 mode
+
+abbrev pub filtersTwo : ℕ → Bool
+filtersTwo mode = leb 1 mode
+
+abbrev pub modeOf : ℕ → Mode
+modeOf mode = record { first = filtersOne mode; second = filtersTwo mode }
 
 abbrev choose : Bool → ℕ → ModeAnswer
-choose true n = Known (record { first = filtersOne n; second = filtersTwo n })
-choose false n = Unknown
+choose true mode = Known (modeOf mode)
+choose false mode = Unknown
 
 abbrev pub modeAnswer : ℕ → ModeAnswer
-modeAnswer n = choose (leb n 2) n
+modeAnswer mode = choose (leb mode 2) mode
 
 -- the number of 01 for each answer
 abbrev pub modeNumber : ModeAnswer → ℕ
 modeNumber (Known m) = 0
 modeNumber Unknown = 1
+
+-- what checks answer whose number is this: the mode where all pass, and else the number
+abbrev pub checked : ℕ → ℕ → Checked
+checked zero mode = Ready (modeOf mode)
+checked (suc k) mode = Refused (suc k)

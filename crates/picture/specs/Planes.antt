@@ -1,9 +1,13 @@
 -- Coefficient planes and grids: which number of a plane stands where in the grid of a level (01, "Pictures, planes and units" and "Both levels").
 use Prim.Native.Nat.{ℕ, zero, suc, _+_, _*_, _/_, _%_}
+use mathlib.Core.Path.{_≡_}
 use mathlib.Core.List.{List, [], _∷_}
 use lib.IntN.{ℤ}
+use lib.ListN.{length}
 use Rattle.lifting.specs.Program.{at}
 use Rattle.lifting.specs.Row.{Row}
+use Rattle.picture.specs.declared.size.Size.{Size}
+use Rattle.picture.specs.Sizes.{macroblocks}
 
 -- f 0, f 1, .., f (n - 1)
 unfoldable pub table : ℕ → (ℕ → ℤ) → List ℤ
@@ -30,18 +34,27 @@ abbrev pub coefficients : ℤ → (ℕ → ℤ) → ℕ → ℤ
 coefficients x f zero = x
 coefficients x f (suc k) = f k
 
--- ---- a set of planes of a picture of W by H macroblocks
+-- ---- a set of planes
 
 pub record Planes : Type 0 where
   pub dc : List ℤ
   pub low : List ℤ
   pub high : List ℤ
 
--- each plane of its length, and each number any of 32 bits
-pub record PlanesOf (W H : ℕ) (s : Planes) : Type 0 where
-  pub dc : Row (W * H) (s .dc)
-  pub low : Row (15 * (W * H)) (s .low)
-  pub high : Row (240 * (W * H)) (s .high)
+abbrev pub planes : List ℤ → List ℤ → List ℤ → Planes
+planes dc low high = record { dc = dc; low = low; high = high }
+
+-- each plane of its length, for n macroblocks
+pub record Lengths (n : ℕ) (s : Planes) : Type 0 where
+  pub dc : length (s .dc) ≡ n
+  pub low : length (s .low) ≡ 15 * n
+  pub high : length (s .high) ≡ 240 * n
+
+-- and each number any of 32 bits
+pub record PlanesOf (size : Size) (s : Planes) : Type 0 where
+  pub dc : Row (macroblocks size) (s .dc)
+  pub low : Row (15 * macroblocks size) (s .low)
+  pub high : Row (240 * macroblocks size) (s .high)
 
 -- level one: each macroblock's square holds its DC number and then low-pass 1 to 15
 unfoldable pub firstGrid : ℕ → ℕ → List ℤ → List ℤ → List ℤ

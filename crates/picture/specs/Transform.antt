@@ -1,36 +1,49 @@
 -- The whole transform: inverse, forward and quarter view (01, "Both levels").
 use Prim.Native.Nat.{ℕ, _*_}
-use mathlib.Core.Bool.{Bool}
 use mathlib.Core.List.{List}
-use lib.Dec.{leb}
 use lib.IntN.{ℤ}
-use Rattle.lifting.specs.Program.{run, undo}
+use Rattle.lifting.specs.Program.{Program, run, undo}
+use Rattle.picture.specs.declared.size.Size.{Size}
+use Rattle.picture.specs.declared.mode.Mode.{Mode}
+use Rattle.picture.specs.Modes.{modeOf}
 use Rattle.picture.specs.Level.{level}
-use Rattle.picture.specs.Planes.{Planes, firstGrid, secondGrid, dcOf, lowOf, viewOf, highOf}
+use Rattle.picture.specs.Planes.{Planes, planes, firstGrid, secondGrid, dcOf, lowOf, viewOf, highOf}
 
--- mode 0 filters no level, mode 1 only level two, mode 2 both
-abbrev pub filtersOne : ℕ → Bool
-filtersOne mode = leb 2 mode
+-- the two levels of a picture: a square is a macroblock in the first, and a block in the second
+abbrev pub levelOne : Mode → Size → Program
+levelOne mode size = level (mode .first) (size .width .0) (size .height .0)
 
-abbrev pub filtersTwo : ℕ → Bool
-filtersTwo mode = leb 1 mode
+abbrev pub levelTwo : Mode → Size → Program
+levelTwo mode size = level (mode .second) (4 * size .width .0) (4 * size .height .0)
 
 -- the grid after level one
-unfoldable pub quarter : ℕ → ℕ → ℕ → List ℤ → List ℤ → List ℤ
-quarter mode W H dc low = run (level (filtersOne mode) W H) (firstGrid W H dc low)
+unfoldable pub quarterBy : Mode → Size → List ℤ → List ℤ → List ℤ
+quarterBy mode size dc low = run (levelOne mode size) (firstGrid (size .width .0) (size .height .0) dc low)
 
 -- from planes to samples: level one and then level two
-unfoldable pub inverse : ℕ → ℕ → ℕ → Planes → List ℤ
-inverse mode W H s =
-    run (level (filtersTwo mode) (4 * W) (4 * H)) (secondGrid W H (quarter mode W H (s .dc) (s .low)) (s .high))
+unfoldable pub inverseBy : Mode → Size → Planes → List ℤ
+inverseBy mode size s =
+    run (levelTwo mode size) (secondGrid (size .width .0) (size .height .0) (quarterBy mode size (s .dc) (s .low)) (s .high))
 
 -- from samples to planes: level two undone and then level one
-unfoldable pub secondUndone : ℕ → ℕ → ℕ → List ℤ → List ℤ
-secondUndone mode W H samples = undo (level (filtersTwo mode) (4 * W) (4 * H)) samples
+unfoldable pub secondUndone : Mode → Size → List ℤ → List ℤ
+secondUndone mode size samples = undo (levelTwo mode size) samples
 
-unfoldable pub firstUndone : ℕ → ℕ → ℕ → List ℤ → List ℤ
-firstUndone mode W H samples = undo (level (filtersOne mode) W H) (viewOf W H (secondUndone mode W H samples))
+unfoldable pub firstUndone : Mode → Size → List ℤ → List ℤ
+firstUndone mode size samples = undo (levelOne mode size) (viewOf (size .width .0) (size .height .0) (secondUndone mode size samples))
 
-unfoldable pub forward : ℕ → ℕ → ℕ → List ℤ → Planes
-forward mode W H samples =
-    record { dc = dcOf W H (firstUndone mode W H samples); low = lowOf W H (firstUndone mode W H samples); high = highOf W H (secondUndone mode W H samples) }
+unfoldable pub forwardBy : Mode → Size → List ℤ → Planes
+forwardBy mode size samples =
+    let W = size .width .0 in
+    let H = size .height .0 in
+    planes (dcOf W H (firstUndone mode size samples)) (lowOf W H (firstUndone mode size samples)) (highOf W H (secondUndone mode size samples))
+
+-- the same by the number of the mode
+abbrev pub quarter : ℕ → Size → List ℤ → List ℤ → List ℤ
+quarter mode size dc low = quarterBy (modeOf mode) size dc low
+
+abbrev pub inverse : ℕ → Size → Planes → List ℤ
+inverse mode size s = inverseBy (modeOf mode) size s
+
+abbrev pub forward : ℕ → Size → List ℤ → Planes
+forward mode size samples = forwardBy (modeOf mode) size samples

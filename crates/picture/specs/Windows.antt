@@ -4,6 +4,8 @@ use mathlib.Core.Path.{_≡_}
 use mathlib.Core.List.{List}
 use lib.IntN.{ℤ}
 use Rattle.lifting.specs.Program.{at}
+use Rattle.picture.specs.declared.size.Size.{Size}
+use Rattle.picture.specs.Sizes.{macroblocks}
 use Rattle.picture.specs.Planes.{Planes, blockOrder}
 
 -- x lies among `count` places from `first` on, or at most `margin` before or after them
@@ -42,6 +44,6 @@ abbrev pub AlikeInMacroblock : Planes → Planes → ℕ → Type 0
 AlikeInMacroblock s t m = (at (s .dc) m ≡ at (t .dc) m) × ((k : ℕ) → k < 15 → at (s .low) (15 * m + k) ≡ at (t .low) (15 * m + k))
 
 -- the sample at row y, column x lies in no window of a block or a macroblock in which they differ
-pub record InNoWindow (mode W H : ℕ) (s t : Planes) (y x : ℕ) : Type 0 where
-  pub blocks : (b : ℕ) → b < 16 * (W * H) → ¬ AlikeInBlock W s t b → ¬ BlockWindow mode W b y x
-  pub macroblocks : (m : ℕ) → m < W * H → ¬ AlikeInMacroblock s t m → ¬ MacroblockWindow mode W m y x
+pub record InNoWindow (mode : ℕ) (size : Size) (s t : Planes) (y x : ℕ) : Type 0 where
+  pub blocks : (b : ℕ) → b < 16 * macroblocks size → ¬ AlikeInBlock (size .width .0) s t b → ¬ BlockWindow mode (size .width .0) b y x
+  pub macroblocks : (m : ℕ) → m < macroblocks size → ¬ AlikeInMacroblock s t m → ¬ MacroblockWindow mode (size .width .0) m y x

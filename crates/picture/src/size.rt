@@ -1,8 +1,10 @@
-// The size of a picture, and the checks that the operations share: mode and size, and the lengths of planes.
+// The size of a picture in macroblocks, and the same in blocks and in samples.
 ghost use mathlib.Core.Path.{_≡_};
 ghost use Prim.Native.Nat.{_*_, _≤_};
-ghost use Rattle.picture.specs.Numbers.{firstOf, shapeChecks, lowChecks, planeChecks, outside as outsideRange};
+ghost use Rattle.picture.specs.Sizes.{Sized, macroblocks};
+use crate::counts::Blocks;
 use crate::counts::Macroblocks;
+use crate::counts::Samples;
 
 #[repr(C)]
 pub struct Size {
@@ -10,58 +12,45 @@ pub struct Size {
     pub height: Macroblocks,
 }
 
-fn outside(most: u32, x: u32) -> bool
-    ensures { λ r. ⌜ r ≡ outsideRange most x ⌝ }
-{
-    if x < 1 {
-        return true;
-    }
-    most < x
+pub struct BlockSize {
+    pub width: Blocks,
+    pub height: Blocks,
 }
 
-// The number of the first check of mode and size that fails, or 0.
-pub fn check_shape(mode: u32, size: Size) -> u32
-    ensures { λ r. ⌜ r ≡ firstOf (shapeChecks mode (size .width .0) (size .height .0)) ⌝ }
-{
-    if mode > 2 {
-        return 1;
-    }
-    let width = size.width.0;
-    if outside(525, width) {
-        return 2;
-    }
-    let height = size.height.0;
-    if outside(413, height) {
-        return 3;
-    }
-    0
+pub struct SampleSize {
+    pub width: Samples,
+    pub height: Samples,
 }
 
-// Likewise of the lengths of a DC and a low-pass plane, of n macroblocks.
-pub fn check_low(n: usize, dc: usize, low: usize) -> u32
-    requires { ⌜ n ≤ 216825 ⌝ }
-    ensures { λ r. ⌜ r ≡ firstOf (lowChecks n dc low) ⌝ }
-{
-    if dc != n {
-        return 4;
+impl Size {
+    // n: the macroblocks of the whole picture.
+    pub fn macroblocks(self) -> Macroblocks
+        requires { ⌜ Sized self ⌝ }
+        ensures { λ r. ⌜ (r .0 ≡ macroblocks self) × (r .0 ≤ 216825) ⌝ }
+    {
+        let width = self.width.0;
+        let height = self.height.0;
+        Macroblocks(width * height)
     }
-    if low != 15 * n {
-        return 5;
-    }
-    0
-}
 
-// Likewise of the lengths of all three planes.
-pub fn check_planes(n: usize, dc: usize, low: usize, high: usize) -> u32
-    requires { ⌜ n ≤ 216825 ⌝ }
-    ensures { λ r. ⌜ r ≡ firstOf (planeChecks n dc low high) ⌝ }
-{
-    let first = check_low(n, dc, low);
-    if first != 0 {
-        return first;
+    pub fn blocks(self) -> BlockSize
+        requires { ⌜ Sized self ⌝ }
+        ensures { λ r. ⌜ (r .width .0 ≡ 4 * self .width .0) × (r .height .0 ≡ 4 * self .height .0) ⌝ }
+    {
+        BlockSize {
+            width: self.width.blocks(),
+            height: self.height.blocks(),
+        }
     }
-    if high != 240 * n {
-        return 6;
+
+    pub fn samples(self) -> SampleSize
+        requires { ⌜ Sized self ⌝ }
+        ensures { λ r. ⌜ (r .width .0 ≡ 16 * self .width .0) × (r .height .0 ≡ 16 * self .height .0) ⌝ }
+    {
+        let size = self.blocks();
+        SampleSize {
+            width: size.width.samples(),
+            height: size.height.samples(),
+        }
     }
-    0
 }

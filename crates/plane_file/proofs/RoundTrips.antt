@@ -13,16 +13,20 @@ use mir.Val.{SFits}
 use mir.Syntax.{w32}
 use Rattle.lifting.specs.Wrap.{low32, wrap}
 use Rattle.lifting.specs.Program.{at}
+use Rattle.picture.specs.declared.size.Size.{Size}
+use Rattle.picture.specs.Sizes.{macroblocks}
+use Rattle.picture.specs.Numbers.{planeChecks}
 use Rattle.picture.specs.Claims.{Shape}
-use Rattle.picture.specs.Planes.{Planes, PlanesOf, table}
+use Rattle.picture.specs.Planes.{Planes, PlanesOf, Lengths, table}
 use Rattle.picture.proofs.Table.{length-table, table-is, table-same}
 use Rattle.picture.proofs.NumberLaws.{passed-first, settled-done}
 use Rattle.plane_file.specs.Words.{word, words, numbers, wordAt, numberAt, numbersAt}
-use Rattle.plane_file.specs.Layout.{dcOffset, lowOffset, highOffset, total, headerWords, header, file, planesIn}
-use Rattle.plane_file.specs.Numbers.{countIn, headerChecks, lengthChecks, headerNumber, loadNumber}
+use Rattle.plane_file.specs.Layout.{headerBytes, dcOffset, lowOffset, highOffset, total, headerWords, header, file, planesIn}
+use Rattle.plane_file.specs.Numbers.{countIn, headerChecks, headerNumber, loadNumber}
+use Rattle.plane_file.specs.Header.{sizeIn}
 use Rattle.plane_file.specs.Claims.{LoadUndoesSave, Bytes, Saves, SaveUndoesLoad}
 use Rattle.plane_file.proofs.Signs.{low-small, word-number, number-word}
-use Rattle.picture.proofs.CheckLaws.{Lengths, few}
+use Rattle.picture.proofs.CheckLaws.{few-macroblocks}
 use Rattle.plane_file.proofs.Checks.{HeaderFits, header-fits, fits-header, fits-planes, fits-save, first-zero, answer-done}
 use Rattle.plane_file.proofs.Parts.{numbers-length}
 use Rattle.plane_file.proofs.Written.{header-length}
@@ -76,19 +80,22 @@ numbers-behind xs p rest a f e =
 
 -- ---- a file that was saved
 
-module _ (mode W H : ℕ) (shape : Shape mode W H) (s : Planes) (fit : PlanesOf W H s) where
-  small : 32 + 1024 * (W * H) < 4294967296
-  small = omega (arith, few W H (shape .width .1) (shape .height .1))
+module _ (mode : ℕ) (size : Size) (shape : Shape mode size) (s : Planes) (fit : PlanesOf size s) where
+  abbrev n : ℕ
+  n = macroblocks size
 
-  file-length : length (file mode W H s) ≡ total (W * H)
+  small : total n < 4294967296
+  small = omega (arith, few-macroblocks (shape .sized))
+
+  file-length : length (file mode size s) ≡ total n
   unfolding file
   file-length =
       omega (
         arith,
-        length-append (header mode W H ++ numbers (s .dc) ++ numbers (s .low)) (numbers (s .high)),
-        length-append (header mode W H ++ numbers (s .dc)) (numbers (s .low)),
-        length-append (header mode W H) (numbers (s .dc)),
-        header-length mode W H,
+        length-append (header mode size ++ numbers (s .dc) ++ numbers (s .low)) (numbers (s .high)),
+        length-append (header mode size ++ numbers (s .dc)) (numbers (s .low)),
+        length-append (header mode size) (numbers (s .dc)),
+        header-length mode size,
         numbers-length (s .dc),
         numbers-length (s .low),
         numbers-length (s .high),
@@ -97,35 +104,35 @@ module _ (mode W H : ℕ) (shape : Shape mode W H) (s : Planes) (fit : PlanesOf 
         fit .high .len,
       )
 
-  header-word : (k : ℕ) → k < 8 → wordAt (file mode W H s) (4 * k) ≡ getD (headerWords mode W H) k 0
+  header-word : (k : ℕ) → k < 8 → wordAt (file mode size s) (4 * k) ≡ getD (headerWords mode size) k 0
   unfolding file header
   header-word k h =
       let e : 4 * k ≡ 0 + 4 * k = omega arith in
-      rw (append-assoc (header mode W H ++ numbers (s .dc)) (numbers (s .low)) (numbers (s .high)), append-assoc (header mode W H) (numbers (s .dc)) (numbers (s .low) ++ numbers (s .high)), e)
-      (words-behind (headerWords mode W H) [] _ k h (
+      rw (append-assoc (header mode size ++ numbers (s .dc)) (numbers (s .low)) (numbers (s .high)), append-assoc (header mode size) (numbers (s .dc)) (numbers (s .low) ++ numbers (s .high)), e)
+      (words-behind (headerWords mode size) [] _ k h (
         omega (arith, shape .known),
         (
-          omega (arith, shape .width .1),
+          omega (arith, shape .sized .most-wide),
           (
-            omega (arith, shape .height .1),
+            omega (arith, shape .sized .most-tall),
             (omega arith, (omega (arith, small), (omega (arith, small), (small, (omega arith, tt))))),
           ),
         ),
       ))
 
-  at-mode : wordAt (file mode W H s) 0 ≡ mode
+  at-mode : wordAt (file mode size s) 0 ≡ mode
   at-mode = header-word 0 (lit< tt)
 
-  at-width : wordAt (file mode W H s) 4 ≡ W
+  at-width : wordAt (file mode size s) 4 ≡ size .width .0
   at-width = header-word 1 (lit< tt)
 
-  at-height : wordAt (file mode W H s) 8 ≡ H
+  at-height : wordAt (file mode size s) 8 ≡ size .height .0
   at-height = header-word 2 (lit< tt)
 
-  at-count : countIn (file mode W H s) ≡ W * H
+  at-count : countIn (file mode size s) ≡ n
   at-count = rw (at-width, at-height)
 
-  saved-header : HeaderFits (file mode W H s)
+  saved-header : HeaderFits (file mode size s)
   saved-header =
       record {
         enough = omega (arith, file-length);
@@ -138,42 +145,42 @@ module _ (mode W H : ℕ) (shape : Shape mode W H) (s : Planes) (fit : PlanesOf 
         whole = file-length ∙ ap total (sym at-count);
       }
 
-  saved-dc : numbersAt (file mode W H s) dcOffset (W * H) ≡ s .dc
+  saved-dc : numbersAt (file mode size s) dcOffset n ≡ s .dc
   unfolding file
   saved-dc =
-      rw (← fit .dc .len, append-assoc (header mode W H ++ numbers (s .dc)) (numbers (s .low)) (numbers (s .high)), append-assoc (header mode W H) (numbers (s .dc)) _)
-      (numbers-behind (s .dc) (header mode W H) _ dcOffset (fit .dc .fit) (header-length mode W H))
+      rw (← fit .dc .len, append-assoc (header mode size ++ numbers (s .dc)) (numbers (s .low)) (numbers (s .high)), append-assoc (header mode size) (numbers (s .dc)) _)
+      (numbers-behind (s .dc) (header mode size) _ dcOffset (fit .dc .fit) (header-length mode size))
 
-  long-dc : length (header mode W H ++ numbers (s .dc)) ≡ lowOffset (W * H)
-  long-dc = omega (arith, length-append (header mode W H) (numbers (s .dc)), header-length mode W H, numbers-length (s .dc), fit .dc .len)
+  long-dc : length (header mode size ++ numbers (s .dc)) ≡ lowOffset n
+  long-dc = omega (arith, length-append (header mode size) (numbers (s .dc)), header-length mode size, numbers-length (s .dc), fit .dc .len)
 
-  saved-low : numbersAt (file mode W H s) (lowOffset (W * H)) (15 * (W * H)) ≡ s .low
+  saved-low : numbersAt (file mode size s) (lowOffset n) (15 * n) ≡ s .low
   unfolding file
   saved-low =
-      rw (← fit .low .len, append-assoc (header mode W H ++ numbers (s .dc)) (numbers (s .low)) (numbers (s .high)))
-      (numbers-behind (s .low) (header mode W H ++ numbers (s .dc)) _ (lowOffset (W * H)) (fit .low .fit) long-dc)
+      rw (← fit .low .len, append-assoc (header mode size ++ numbers (s .dc)) (numbers (s .low)) (numbers (s .high)))
+      (numbers-behind (s .low) (header mode size ++ numbers (s .dc)) _ (lowOffset n) (fit .low .fit) long-dc)
 
-  saved-high : numbersAt (file mode W H s) (highOffset (W * H)) (240 * (W * H)) ≡ s .high
+  saved-high : numbersAt (file mode size s) (highOffset n) (240 * n) ≡ s .high
   unfolding file
   saved-high =
       rw (← fit .high .len, ← append-nil (numbers (s .high)))
-      (numbers-behind (s .high) (header mode W H ++ numbers (s .dc) ++ numbers (s .low)) [] (highOffset (W * H)) (fit .high .fit)
-      (omega (arith, length-append (header mode W H ++ numbers (s .dc)) (numbers (s .low)), long-dc, numbers-length (s .low), fit .low .len)))
+      (numbers-behind (s .high) (header mode size ++ numbers (s .dc) ++ numbers (s .low)) [] (highOffset n) (fit .high .fit)
+      (omega (arith, length-append (header mode size ++ numbers (s .dc)) (numbers (s .low)), long-dc, numbers-length (s .low), fit .low .len)))
 
-  saved-planes : planesIn (file mode W H s) (countIn (file mode W H s)) ≡ s
+  saved-planes : planesIn (file mode size s) (countIn (file mode size s)) ≡ s
   saved-planes = rw (at-count, saved-dc, saved-low, saved-high)
 
 pub load-undoes-save : LoadUndoesSave
 unfolding loadNumber headerNumber
-load-undoes-save mode W H shape s was fit lent =
-    let f = file mode W H s in
-    let n = at-count mode W H shape s fit in
-    let lengths : Lengths (countIn f) (length (was .dc)) (length (was .low)) (length (was .high)) = record { dc = lent .dc .len ∙ sym n; low = lent .low .len ∙ ap (λ (k : ℕ). 15 * k) (sym n); high = lent .high .len ∙ ap (λ (k : ℕ). 240 * k) (sym n) } in
-    let head = fits-header f (saved-header mode W H shape s fit) in
-    let done : loadNumber f was ≡ 0 = passed-first (headerChecks f) (lengthChecks (countIn f) was) tt refl head ∙ fits-planes (countIn f) _ _ _ lengths in
+load-undoes-save mode size shape s was fit lent =
+    let f = file mode size s in
+    let n = at-count mode size shape s fit in
+    let lengths : Lengths (countIn f) was = record { dc = lent .dc .len ∙ sym n; low = lent .low .len ∙ ap (λ (k : ℕ). 15 * k) (sym n); high = lent .high .len ∙ ap (λ (k : ℕ). 240 * k) (sym n) } in
+    let head = fits-header f (saved-header mode size shape s fit) in
+    let done : loadNumber f was ≡ 0 = passed-first (headerChecks f) (planeChecks (countIn f) was) refl head ∙ fits-planes (countIn f) was lengths in
     record {
-      answer = sym (answer-done (loadNumber f was) f done) ∙ rw (at-mode mode W H shape s fit, at-width mode W H shape s fit, at-height mode W H shape s fit);
-      planes = settled-done (loadNumber f was) (planesIn f (countIn f)) was done ∙ saved-planes mode W H shape s fit;
+      answer = sym (answer-done (loadNumber f was) f done) ∙ rw (at-mode mode size shape s fit, at-width mode size shape s fit, at-height mode size shape s fit);
+      planes = settled-done (loadNumber f was) (planesIn f (countIn f)) was done ∙ saved-planes mode size shape s fit;
     }
 
 -- ---- the bytes from which a word was read are those that it writes
@@ -241,7 +248,7 @@ module _ (b : List ℕ) (bytes : Bytes b) where
   next-part : (done vs : List ℕ) (a k next : ℕ) → done ≡ take a b → vs ≡ take k (drop a b) → a + k ≡ next → done ++ vs ≡ take next b
   next-part done vs a k next p q e = rw (p, q, ← e) (sym (take-add a k b))
 
-  header-of : HeaderFits b → header (wordAt b 0) (wordAt b 4) (wordAt b 8) ≡ take 32 b
+  header-of : HeaderFits b → header (wordAt b 0) (sizeIn b) ≡ take headerBytes b
   unfolding header
   header-of f = ap words (the-eight (sym (f .dc)) (sym (f .low)) (sym (f .high)) (sym (f .end)) (sym (f .last))) ∙ words-of 8 0 (f .enough)
     where
@@ -249,7 +256,7 @@ module _ (b : List ℕ) (bytes : Bytes b) where
           → x ∷ y ∷ z ∷ d ∷ l ∷ h ∷ t ∷ o ∷ [] ≡ x ∷ y ∷ z ∷ d′ ∷ l′ ∷ h′ ∷ t′ ∷ o′ ∷ []
       the-eight p q r u w = rw (p, q, r, u, w)
 
-  file-of : HeaderFits b → file (wordAt b 0) (wordAt b 4) (wordAt b 8) (planesIn b (countIn b)) ≡ b
+  file-of : HeaderFits b → file (wordAt b 0) (sizeIn b) (planesIn b (countIn b)) ≡ b
   unfolding file
   file-of f =
       let n = countIn b in
@@ -260,19 +267,19 @@ module _ (b : List ℕ) (bytes : Bytes b) where
       q3 ∙ take-all (total n) b (omega (arith, f .whole))
 
 saves-back : (bytes : List ℕ) → Bytes bytes → HeaderFits bytes → (was : List ℕ) → length was ≡ length bytes
-    → (s : Planes) → s ≡ planesIn bytes (countIn bytes) → Saves (wordAt bytes 0) (wordAt bytes 4) (wordAt bytes 8) s was bytes
+    → (s : Planes) → s ≡ planesIn bytes (countIn bytes) → Saves (wordAt bytes 0) (sizeIn bytes) s was bytes
 unfolding numbersAt
 saves-back bytes small f was long s e =
-    let lengths : Lengths (countIn bytes) (length (s .dc)) (length (s .low)) (length (s .high)) =
+    let lengths : Lengths (countIn bytes) s =
     rw e (record { dc = length-table _ _; low = length-table _ _; high = length-table _ _ }) in
-    let done = fits-save (wordAt bytes 0) (wordAt bytes 4) (wordAt bytes 8) s was (record { shape = f .shape; planes = lengths; whole = long ∙ f .whole }) in
+    let done = fits-save (wordAt bytes 0) (sizeIn bytes) s was (f .shape) lengths (long ∙ f .whole) in
     record {
       done = done;
-      writes = settled-done _ (file (wordAt bytes 0) (wordAt bytes 4) (wordAt bytes 8) s) was done ∙ rw e (file-of bytes small f);
+      writes = settled-done _ (file (wordAt bytes 0) (sizeIn bytes) s) was done ∙ rw e (file-of bytes small f);
     }
 
 pub save-undoes-load : SaveUndoesLoad
 unfolding loadNumber headerNumber
 save-undoes-load bytes small into e was long =
-    saves-back bytes small (header-fits bytes (first-zero (headerChecks bytes) (lengthChecks (countIn bytes) into) e)) was long _
+    saves-back bytes small (header-fits bytes (first-zero (headerChecks bytes) (planeChecks (countIn bytes) into) e)) was long _
     (settled-done (loadNumber bytes into) (planesIn bytes (countIn bytes)) into e)

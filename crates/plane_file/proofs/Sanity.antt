@@ -4,10 +4,10 @@ use mathlib.Core.List.{[], _∷_, _++_}
 use lib.ListN.{replicate}
 use lib.IntN.{pos, negsuc}
 use Rattle.lifting.specs.Wrap.{wrap}
-use Rattle.picture.specs.Planes.{Planes}
+use Rattle.picture.specs.Planes.{Planes, planes}
 use Rattle.plane_file.specs.Words.{words, wordAt, numbers, numberAt}
-use Rattle.plane_file.specs.Layout.{header, planes, file}
-use Rattle.plane_file.specs.Header.{headerOf}
+use Rattle.plane_file.specs.Layout.{header, file}
+use Rattle.plane_file.specs.Header.{headerOf, sizeOf}
 use Rattle.plane_file.specs.Numbers.{headerNumber}
 use Rattle.plane_file.specs.Calls.{headerAnswer}
 
@@ -19,11 +19,11 @@ too-short : headerNumber (replicate 31 0) ≡ 9
 unfolding headerNumber wordAt
 too-short = refl
 
-sound : headerAnswer (file 2 1 1 small) ≡ headerOf 0 2 1 1
+sound : headerAnswer (file 2 (sizeOf 1 1) small) ≡ headerOf 0 2 (sizeOf 1 1)
 unfolding headerNumber wordAt file header words numbers small
 sound = refl
 
-one-byte-more : headerAnswer (file 2 1 1 small ++ (0 ∷ [])) ≡ headerOf 12 0 0 0
+one-byte-more : headerAnswer (file 2 (sizeOf 1 1) small ++ (0 ∷ [])) ≡ headerOf 12 0 (sizeOf 0 0)
 unfolding headerNumber wordAt file header words numbers small
 one-byte-more = refl
 

@@ -3,29 +3,30 @@ use Prim.Native.Nat.{ℕ, _<_}
 use mathlib.Core.Path.{_≡_}
 use mathlib.Core.List.{List}
 use lib.ListN.{length, getD}
+use Rattle.picture.specs.declared.size.Size.{Size}
 use Rattle.picture.specs.Claims.{Shape}
 use Rattle.picture.specs.Planes.{Planes, PlanesOf}
 use Rattle.plane_file.specs.Words.{wordAt}
-use Rattle.plane_file.specs.Header.{headerOf}
+use Rattle.plane_file.specs.Header.{headerOf, sizeIn}
 use Rattle.plane_file.specs.Layout.{file}
 use Rattle.plane_file.specs.Numbers.{loadNumber, saveNumber}
 use Rattle.plane_file.specs.Calls.{loadAnswer, loaded, saved}
 
 -- loading these bytes is done, and gives this mode, this size and these planes
-pub record Loads (bytes : List ℕ) (was : Planes) (mode W H : ℕ) (s : Planes) : Type 0 where
-  pub answer : loadAnswer bytes was ≡ headerOf 0 mode W H
+pub record Loads (bytes : List ℕ) (was : Planes) (mode : ℕ) (size : Size) (s : Planes) : Type 0 where
+  pub answer : loadAnswer bytes was ≡ headerOf 0 mode size
   pub planes : loaded bytes was ≡ s
 
 -- a saved file loads, and gives back what was saved
 abbrev pub LoadUndoesSave : Type 0
 LoadUndoesSave =
-    (mode W H : ℕ) → Shape mode W H → (s was : Planes) → PlanesOf W H s → PlanesOf W H was
-    → Loads (file mode W H s) was mode W H s
+    (mode : ℕ) (size : Size) → Shape mode size → (s was : Planes) → PlanesOf size s → PlanesOf size was
+    → Loads (file mode size s) was mode size s
 
 -- saving this mode, this size and these planes is done, and writes these bytes
-pub record Saves (mode W H : ℕ) (s : Planes) (was bytes : List ℕ) : Type 0 where
-  pub done : saveNumber mode W H s was ≡ 0
-  pub writes : saved mode W H s was ≡ bytes
+pub record Saves (mode : ℕ) (size : Size) (s : Planes) (was bytes : List ℕ) : Type 0 where
+  pub done : saveNumber mode size s was ≡ 0
+  pub writes : saved mode size s was ≡ bytes
 
 -- each number a byte
 abbrev pub Bytes : List ℕ → Type 0
@@ -36,4 +37,4 @@ abbrev pub SaveUndoesLoad : Type 0
 SaveUndoesLoad =
     (bytes : List ℕ) → Bytes bytes → (into : Planes) → loadNumber bytes into ≡ 0
     → (was : List ℕ) → length was ≡ length bytes
-    → Saves (wordAt bytes 0) (wordAt bytes 4) (wordAt bytes 8) (loaded bytes into) was bytes
+    → Saves (wordAt bytes 0) (sizeIn bytes) (loaded bytes into) was bytes

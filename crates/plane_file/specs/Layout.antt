@@ -1,35 +1,38 @@
--- The layout of a plane file of W by H macroblocks: eight words, and the three planes after them (01, "The plane file").
+-- The layout of a plane file: eight words, and the three planes after them (01, "The plane file").
 use Prim.Native.Nat.{ℕ, _+_, _*_}
 use mathlib.Core.List.{List, [], _∷_, _++_}
-use lib.IntN.{ℤ}
-use Rattle.picture.specs.Planes.{Planes}
+use Rattle.picture.specs.declared.size.Size.{Size}
+use Rattle.picture.specs.Sizes.{macroblocks}
+use Rattle.picture.specs.Planes.{Planes, planes}
 use Rattle.plane_file.specs.Words.{words, numbers, numbersAt}
 
--- where each plane of a picture of n macroblocks starts, and the file's length in bytes
+-- the header's length in bytes; where each plane of a picture of n macroblocks starts; and the file's length
+abbrev pub headerBytes : ℕ
+headerBytes = 32
+
 abbrev pub dcOffset : ℕ
-dcOffset = 32
+dcOffset = headerBytes
 
 abbrev pub lowOffset : ℕ → ℕ
-lowOffset n = 32 + 4 * n
+lowOffset n = headerBytes + 4 * n
 
 abbrev pub highOffset : ℕ → ℕ
-highOffset n = 32 + 64 * n
+highOffset n = headerBytes + 64 * n
 
 abbrev pub total : ℕ → ℕ
-total n = 32 + 1024 * n
+total n = headerBytes + 1024 * n
 
-abbrev pub headerWords : ℕ → ℕ → ℕ → List ℕ
-headerWords mode W H = mode ∷ W ∷ H ∷ dcOffset ∷ lowOffset (W * H) ∷ highOffset (W * H) ∷ total (W * H) ∷ 0 ∷ []
+abbrev pub headerWords : ℕ → Size → List ℕ
+headerWords mode size =
+    let n = macroblocks size in
+    mode ∷ size .width .0 ∷ size .height .0 ∷ dcOffset ∷ lowOffset n ∷ highOffset n ∷ total n ∷ 0 ∷ []
 
-unfoldable pub header : ℕ → ℕ → ℕ → List ℕ
-header mode W H = words (headerWords mode W H)
-
-abbrev pub planes : List ℤ → List ℤ → List ℤ → Planes
-planes dc low high = record { dc = dc; low = low; high = high }
+unfoldable pub header : ℕ → Size → List ℕ
+header mode size = words (headerWords mode size)
 
 -- the whole file
-unfoldable pub file : ℕ → ℕ → ℕ → Planes → List ℕ
-file mode W H s = header mode W H ++ numbers (s .dc) ++ numbers (s .low) ++ numbers (s .high)
+unfoldable pub file : ℕ → Size → Planes → List ℕ
+file mode size s = header mode size ++ numbers (s .dc) ++ numbers (s .low) ++ numbers (s .high)
 
 -- the planes that stand in a file of n macroblocks
 abbrev pub planesIn : List ℕ → ℕ → Planes

@@ -1,56 +1,53 @@
 -- The numbers of header, load and save: their checks, in order (01, "The numbers each operation gives").
-use Prim.Native.Nat.{ℕ, _*_}
+use Prim.Native.Nat.{ℕ}
 use mathlib.Core.Bool.{Bool, _||_}
 use mathlib.Core.List.{List, [], _∷_, _++_}
 use lib.Dec.{ltb}
 use lib.ListN.{length}
-use Rattle.picture.specs.Numbers.{Check, _if_, firstOf, unlike, shapeChecks, planeChecks}
+use Rattle.picture.specs.declared.size.Size.{Size}
+use Rattle.picture.specs.Sizes.{macroblocks}
+use Rattle.picture.specs.Numbers.{_if_, firstOf, unlike, shapeChecks, planeChecks}
 use Rattle.picture.specs.Planes.{Planes}
 use Rattle.plane_file.specs.declared.header.Words.{Words}
-use Rattle.plane_file.specs.Words.{wordAt}
-use Rattle.plane_file.specs.Layout.{dcOffset, lowOffset, highOffset, total}
-use Rattle.plane_file.specs.Header.{wordsOf}
+use Rattle.plane_file.specs.Layout.{headerBytes, dcOffset, lowOffset, highOffset, total}
+use Rattle.plane_file.specs.Header.{sizeOf, sizeIn, wordsOf}
 
 -- an offset or the total isn't as laid down for n macroblocks
 abbrev pub misplaced : ℕ → Words → Bool
 misplaced n w = unlike (w .dc) dcOffset || unlike (w .low) (lowOffset n) || unlike (w .high) (highOffset n) || unlike (w .total) (total n)
 
 -- 10: last word not zero. 11: an offset or the total
-abbrev pub layoutChecks : Words → List Check
-layoutChecks w = (10 if unlike (w .last) 0) ∷ (11 if misplaced (w .width * w .height) w) ∷ []
+abbrev pub layoutChecks : Words → List ℕ
+layoutChecks w = (10 if unlike (w .last) 0) ∷ (11 if misplaced (macroblocks (sizeOf (w .width) (w .height))) w) ∷ []
 
 -- of the words alone: 1, 2, 3, 10, 11
-abbrev pub wordChecks : Words → List Check
-wordChecks w = shapeChecks (w .mode) (w .width) (w .height) ++ layoutChecks w
+abbrev pub wordChecks : Words → List ℕ
+wordChecks w = shapeChecks (w .mode) (sizeOf (w .width) (w .height)) ++ layoutChecks w
 
--- 9: fewer than 32 bytes; then the words
-abbrev pub startChecks : List ℕ → List Check
-startChecks bytes = (9 if ltb (length bytes) 32) ∷ wordChecks (wordsOf bytes)
+-- 9: fewer bytes than a header has; then the words
+abbrev pub startChecks : List ℕ → List ℕ
+startChecks bytes = (9 if ltb (length bytes) headerBytes) ∷ wordChecks (wordsOf bytes)
 
 -- 12: not as many bytes as a file of n macroblocks has
-abbrev pub totalCheck : ℕ → ℕ → List Check
+abbrev pub totalCheck : ℕ → ℕ → List ℕ
 totalCheck n bytes = (12 if unlike bytes (total n)) ∷ []
 
 -- W times H, as the header says them
 abbrev pub countIn : List ℕ → ℕ
-countIn bytes = wordAt bytes 4 * wordAt bytes 8
+countIn bytes = macroblocks (sizeIn bytes)
 
-abbrev pub headerChecks : List ℕ → List Check
+abbrev pub headerChecks : List ℕ → List ℕ
 headerChecks bytes = startChecks bytes ++ totalCheck (countIn bytes) (length bytes)
 
 -- Header: 9, 1, 2, 3, 10, 11, 12
 unfoldable pub headerNumber : List ℕ → ℕ
 headerNumber bytes = firstOf (headerChecks bytes)
 
--- 4, 5, 6: the lengths of three planes
-abbrev pub lengthChecks : ℕ → Planes → List Check
-lengthChecks n s = planeChecks n (length (s .dc)) (length (s .low)) (length (s .high))
-
 -- Load: as header, then 4, 5, 6
 unfoldable pub loadNumber : List ℕ → Planes → ℕ
-loadNumber bytes s = firstOf (headerChecks bytes ++ lengthChecks (countIn bytes) s)
+loadNumber bytes s = firstOf (headerChecks bytes ++ planeChecks (countIn bytes) s)
 
 -- Save: 1 to 6, then 12
-unfoldable pub saveNumber : ℕ → ℕ → ℕ → Planes → List ℕ → ℕ
-saveNumber mode W H s bytes =
-    firstOf (shapeChecks mode W H ++ lengthChecks (W * H) s ++ totalCheck (W * H) (length bytes))
+unfoldable pub saveNumber : ℕ → Size → Planes → List ℕ → ℕ
+saveNumber mode size s bytes =
+    firstOf (shapeChecks mode size ++ planeChecks (macroblocks size) s ++ totalCheck (macroblocks size) (length bytes))

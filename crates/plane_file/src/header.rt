@@ -1,14 +1,19 @@
 // The header of a plane file: its eight words, their checks and what they answer.
 ghost use mathlib.Core.Path.{_≡_};
-ghost use Prim.Native.Nat.{_*_, _≤_, _<_};
+ghost use Prim.Native.Nat.{_≤_};
 ghost use Rattle.picture.specs.Numbers.{firstOf};
-ghost use Rattle.plane_file.specs.Header.{headerOf, answer};
+ghost use Rattle.plane_file.specs.Header.{sizeOf, headerOf, answer};
 ghost use Rattle.plane_file.specs.Calls.{headerAnswer};
 ghost use Rattle.plane_file.specs.Numbers.{misplaced as isMisplaced, wordChecks, startChecks};
+use crate::layout::HEADER_BYTES;
+use crate::layout::high_offset;
+use crate::layout::low_offset;
+use crate::layout::total_bytes;
 use crate::reader::read_words;
+use picture::checks::Checked;
+use picture::checks::check_shape;
 use picture::counts::Macroblocks;
 use picture::size::Size;
-use picture::size::check_shape;
 
 // The eight words in their order; the last is to be zero.
 pub struct Words {
@@ -22,6 +27,17 @@ pub struct Words {
     pub last: u32,
 }
 
+impl Words {
+    pub fn size(self) -> Size
+        ensures { λ r. ⌜ r ≡ sizeOf (self .width) (self .height) ⌝ }
+    {
+        Size {
+            width: Macroblocks(self.width),
+            height: Macroblocks(self.height),
+        }
+    }
+}
+
 // The number of an operation, and, where that is 0, the mode and the size that the header says.
 #[repr(C)]
 pub struct Header {
@@ -30,62 +46,49 @@ pub struct Header {
     pub size: Size,
 }
 
-pub fn header_of(number: u32, mode: u32, width: u32, height: u32) -> Header
-    ensures { λ r. ⌜ r ≡ headerOf number mode width height ⌝ }
+// What is answered with a number that is not 0: zeros in the place of mode and size.
+pub fn refused(number: u32) -> Header
+    ensures { λ r. ⌜ r ≡ headerOf number 0 (sizeOf 0 0) ⌝ }
 {
     Header {
         number,
-        mode,
+        mode: 0,
         size: Size {
-            width: Macroblocks(width),
-            height: Macroblocks(height),
+            width: Macroblocks(0),
+            height: Macroblocks(0),
         },
     }
 }
 
-// The macroblocks of a size that was checked.
-pub fn count(size: Size) -> u32
-    requires { ⌜ size .width .0 ≤ 525 ⌝ }
-    requires { ⌜ size .height .0 ≤ 413 ⌝ }
-    ensures { λ r. ⌜ (r ≡ size .width .0 * size .height .0) × (r ≤ 216825) ⌝ }
+fn misplaced(n: Macroblocks, w: Words) -> bool
+    requires { ⌜ n .0 ≤ 216825 ⌝ }
+    ensures { λ r. ⌜ r ≡ isMisplaced (n .0) w ⌝ }
 {
-    let width = size.width.0;
-    let height = size.height.0;
-    width * height
-}
-
-fn misplaced(n: u32, w: Words) -> bool
-    requires { ⌜ n ≤ 216825 ⌝ }
-    ensures { λ r. ⌜ r ≡ isMisplaced n w ⌝ }
-{
-    if w.dc != 32 {
+    if w.dc != HEADER_BYTES {
         return true;
     }
-    if w.low != 32 + 4 * n {
+    if w.low != low_offset(n) {
         return true;
     }
-    if w.high != 32 + 64 * n {
+    if w.high != high_offset(n) {
         return true;
     }
-    w.total != 32 + 1024 * n
+    w.total != total_bytes(n)
 }
 
 // The number of the first check of the words that fails, or 0.
 pub fn check_words(w: Words) -> u32
     ensures { λ r. ⌜ r ≡ firstOf (wordChecks w) ⌝ }
 {
-    let size = Size {
-        width: Macroblocks(w.width),
-        height: Macroblocks(w.height),
-    };
-    let number = check_shape(w.mode, size);
-    if number != 0 {
+    let size = w.size();
+    let shape = check_shape(w.mode, size);
+    if let Checked::Refused(number) = shape {
         return number;
     }
     if w.last != 0 {
         return 10;
     }
-    if misplaced(count(size), w) {
+    if misplaced(size.macroblocks(), w) {
         return 11;
     }
     0
@@ -95,15 +98,20 @@ pub fn check_words(w: Words) -> u32
 pub fn read_start(bytes: &[u8]) -> Header
     ensures { λ r. ⌜ r ≡ answer (firstOf (startChecks (now (bytes .entry)))) (now (bytes .entry)) ⌝ }
 {
-    if bytes.len() < 32 {
-        return header_of(9, 0, 0, 0);
+    if bytes.len() < HEADER_BYTES as usize {
+        return refused(9);
     }
     let w = read_words(bytes);
     let number = check_words(w);
     if number != 0 {
-        return header_of(number, 0, 0, 0);
+        return refused(number);
     }
-    header_of(0, w.mode, w.width, w.height)
+    let size = w.size();
+    Header {
+        number: 0,
+        mode: w.mode,
+        size,
+    }
 }
 
 // The whole header: mode and size, or the number of the first check that fails.
@@ -114,9 +122,9 @@ pub fn read_header(bytes: &[u8]) -> Header
     if start.number != 0 {
         return start;
     }
-    let n = count(start.size) as usize;
-    if bytes.len() != 32 + 1024 * n {
-        return header_of(12, 0, 0, 0);
+    let size = start.size;
+    if bytes.len() != total_bytes(size.macroblocks()) as usize {
+        return refused(12);
     }
     start
 }

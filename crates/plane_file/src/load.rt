@@ -3,15 +3,17 @@ ghost use mathlib.Core.Path.{_≡_};
 ghost use Prim.Native.Nat.{_+_, _*_, _≤_};
 ghost use lib.ListN.{length};
 ghost use Rattle.plane_file.specs.Words.{numbersAt};
-ghost use Rattle.plane_file.specs.Layout.{planes};
+ghost use Rattle.picture.specs.Planes.{planes};
 ghost use Rattle.plane_file.specs.Calls.{loadAnswer, loaded};
 use crate::header::Header;
-use crate::header::count;
-use crate::header::header_of;
 use crate::header::read_header;
+use crate::header::refused;
+use crate::layout::HEADER_BYTES;
+use crate::layout::high_offset;
+use crate::layout::low_offset;
 use crate::word::from_word;
 use crate::word::word_at;
-use picture::size::check_planes;
+use picture::checks::check_planes;
 
 // Fills a plane with the numbers from `at` on.
 fn load_plane(bytes: &[u8], at: usize, plane: &mut [i32])
@@ -26,19 +28,21 @@ fn load_plane(bytes: &[u8], at: usize, plane: &mut [i32])
 // The planes of a file, with its mode and size, or the number of the first check that fails.
 pub fn load(bytes: &[u8], dc: &mut [i32], low: &mut [i32], high: &mut [i32]) -> Header
     ensures { λ r. ⌜ r ≡ loadAnswer (now (bytes .entry)) (planes (now (dc .entry)) (now (low .entry)) (now (high .entry))) ⌝ }
-    ensures { λ _. ⌜ planes (now (dc .exit)) (now (low .exit)) (now (high .exit)) ≡ loaded (now (bytes .entry)) (planes (now (dc .entry)) (now (low .entry)) (now (high .entry))) ⌝ }
+    ensures { λ _. ⌜ planes (now (dc .exit)) (now (low .exit)) (now (high .exit)) ≡
+        loaded (now (bytes .entry)) (planes (now (dc .entry)) (now (low .entry)) (now (high .entry))) ⌝ }
 {
     let header = read_header(bytes);
     if header.number != 0 {
         return header;
     }
-    let n = count(header.size) as usize;
-    let number = check_planes(n, dc.len(), low.len(), high.len());
+    let size = header.size;
+    let n = size.macroblocks();
+    let number = check_planes(n, dc, low, high);
     if number != 0 {
-        return header_of(number, 0, 0, 0);
+        return refused(number);
     }
-    load_plane(bytes, 32, dc);
-    load_plane(bytes, 32 + 4 * n, low);
-    load_plane(bytes, 32 + 64 * n, high);
+    load_plane(bytes, HEADER_BYTES as usize, dc);
+    load_plane(bytes, low_offset(n) as usize, low);
+    load_plane(bytes, high_offset(n) as usize, high);
     header
 }

@@ -20,6 +20,17 @@ impl<'a> WordReader<'a> {
     {
         word_at(self.bytes, self.at)
     }
+
+    // The reader at the place of the next word.
+    pub fn advanced(self) -> WordReader<'a>
+        requires { ⌜ self .at + 4 ≤ length (now (self .bytes)) ⌝ }
+        ensures { λ r. ⌜ (r .bytes ≡ self .entry .bytes) × (r .at ≡ self .entry .at + 4) ⌝ }
+    {
+        WordReader {
+            bytes: self.bytes,
+            at: self.at + 4,
+        }
+    }
 }
 
 // The eight words of a header, one after another.
@@ -29,19 +40,19 @@ pub fn read_words(bytes: &[u8]) -> Words
 {
     let mut r = WordReader { bytes, at: 0 };
     let mode = r.word();
-    r.at += 4;
+    r = r.advanced();
     let width = r.word();
-    r.at += 4;
+    r = r.advanced();
     let height = r.word();
-    r.at += 4;
+    r = r.advanced();
     let dc = r.word();
-    r.at += 4;
+    r = r.advanced();
     let low = r.word();
-    r.at += 4;
+    r = r.advanced();
     let high = r.word();
-    r.at += 4;
+    r = r.advanced();
     let total = r.word();
-    r.at += 4;
+    r = r.advanced();
     let last = r.word();
     Words {
         mode,

@@ -3,80 +3,92 @@ ghost use mathlib.Core.Path.{_≡_};
 ghost use mathlib.Core.List.{_++_};
 ghost use Prim.Native.Nat.{_+_, _*_, _≤_};
 ghost use lib.ListN.{length, take, drop};
-ghost use Rattle.picture.specs.Numbers.{firstOf, shapeChecks, planeChecks};
+ghost use Rattle.picture.specs.Sizes.{Sized, macroblocks};
+ghost use Rattle.picture.specs.Planes.{Lengths, planes};
+ghost use Rattle.picture.specs.Numbers.{firstOf, settled, planeChecks};
 ghost use Rattle.plane_file.specs.Words.{numbers};
-ghost use Rattle.plane_file.specs.Layout.{header, planes};
+ghost use Rattle.plane_file.specs.Layout.{headerBytes, total, header, file};
 ghost use Rattle.plane_file.specs.Numbers.{totalCheck, saveNumber};
 ghost use Rattle.plane_file.specs.Calls.{saved};
-use crate::header::count;
+use crate::layout::HEADER_BYTES;
+use crate::layout::high_offset;
+use crate::layout::low_offset;
+use crate::layout::total_bytes;
 use crate::word::put_word;
 use crate::word::to_word;
+use picture::checks::Checked;
+use picture::checks::check_planes;
+use picture::checks::check_shape;
 use picture::size::Size;
-use picture::size::check_planes;
-use picture::size::check_shape;
-
-// The number of the first check that fails, or 0, from the lengths of the planes and of the bytes.
-fn check_save(mode: u32, size: Size, dc: usize, low: usize, high: usize, bytes: usize) -> u32
-    ensures { λ r. ⌜ r ≡ firstOf (shapeChecks mode (size .width .0) (size .height .0) ++ planeChecks (size .width .0 * size .height .0) dc low high ++ totalCheck (size .width .0 * size .height .0) bytes) ⌝ }
-{
-    let shape = check_shape(mode, size);
-    if shape != 0 {
-        return shape;
-    }
-    let n = count(size) as usize;
-    let planes = check_planes(n, dc, low, high);
-    if planes != 0 {
-        return planes;
-    }
-    if bytes != 32 + 1024 * n {
-        return 12;
-    }
-    0
-}
 
 // Writes the eight words.
 fn save_header(mode: u32, size: Size, bytes: &mut [u8])
-    requires { ⌜ size .width .0 ≤ 525 ⌝ }
-    requires { ⌜ size .height .0 ≤ 413 ⌝ }
-    requires { ⌜ 32 ≤ length (now bytes) ⌝ }
-    ensures { λ _. ⌜ now (bytes .exit) ≡ header mode (size .width .0) (size .height .0) ++ drop 32 (now (bytes .entry)) ⌝ }
+    requires { ⌜ Sized size ⌝ }
+    requires { ⌜ headerBytes ≤ length (now bytes) ⌝ }
+    ensures { λ _. ⌜ now (bytes .exit) ≡ header mode size ++ drop headerBytes (now (bytes .entry)) ⌝ }
 {
-    let width = size.width.0;
-    let height = size.height.0;
-    let n = count(size);
+    let n = size.macroblocks();
     put_word(bytes, 0, mode);
-    put_word(bytes, 4, width);
-    put_word(bytes, 8, height);
-    put_word(bytes, 12, 32);
-    put_word(bytes, 16, 32 + 4 * n);
-    put_word(bytes, 20, 32 + 64 * n);
-    put_word(bytes, 24, 32 + 1024 * n);
+    put_word(bytes, 4, size.width.0);
+    put_word(bytes, 8, size.height.0);
+    put_word(bytes, 12, HEADER_BYTES);
+    put_word(bytes, 16, low_offset(n));
+    put_word(bytes, 20, high_offset(n));
+    put_word(bytes, 24, total_bytes(n));
     put_word(bytes, 28, 0);
 }
 
 // Writes the numbers of a plane from `at` on.
 fn save_plane(plane: &[i32], bytes: &mut [u8], at: usize)
     requires { ⌜ at + 4 * length (now plane) ≤ length (now bytes) ⌝ }
-    ensures { λ _. ⌜ now (bytes .exit) ≡ take at (now (bytes .entry)) ++ numbers (now (plane .entry)) ++ drop (at + 4 * length (now (plane .entry))) (now (bytes .entry)) ⌝ }
+    ensures { λ _. ⌜ now (bytes .exit) ≡
+        take at (now (bytes .entry)) ++ numbers (now (plane .entry)) ++ drop (at + 4 * length (now (plane .entry))) (now (bytes .entry)) ⌝ }
 {
     for i in 0..plane.len() {
         put_word(bytes, at + 4 * i, to_word(plane[i]));
     }
 }
 
+// Writes the whole file into bytes of its length.
+fn save_file(mode: u32, size: Size, dc: &[i32], low: &[i32], high: &[i32], bytes: &mut [u8])
+    requires { ⌜ Sized size ⌝ }
+    requires { ⌜ Lengths (macroblocks size) (planes (now dc) (now low) (now high)) ⌝ }
+    requires { ⌜ length (now bytes) ≡ total (macroblocks size) ⌝ }
+    ensures { λ _. ⌜ now (bytes .exit) ≡ file mode size (planes (now (dc .entry)) (now (low .entry)) (now (high .entry))) ⌝ }
+{
+    let n = size.macroblocks();
+    save_header(mode, size, bytes);
+    save_plane(dc, bytes, HEADER_BYTES as usize);
+    save_plane(low, bytes, low_offset(n) as usize);
+    save_plane(high, bytes, high_offset(n) as usize);
+}
+
+// The checks of the lengths, and then the file.
+fn save_sized(mode: u32, size: Size, dc: &[i32], low: &[i32], high: &[i32], bytes: &mut [u8]) -> u32
+    requires { ⌜ Sized size ⌝ }
+    ensures { λ r. ⌜ r ≡
+        firstOf (planeChecks (macroblocks size) (planes (now (dc .entry)) (now (low .entry)) (now (high .entry))) ++ totalCheck (macroblocks size) (length (now (bytes .entry)))) ⌝ }
+    ensures { λ r. ⌜ now (bytes .exit) ≡ settled r (file mode size (planes (now (dc .entry)) (now (low .entry)) (now (high .entry)))) (now (bytes .entry)) ⌝ }
+{
+    let n = size.macroblocks();
+    let refused = check_planes(n, dc, low, high);
+    if refused != 0 {
+        return refused;
+    }
+    if bytes.len() != total_bytes(n) as usize {
+        return 12;
+    }
+    save_file(mode, size, dc, low, high, bytes);
+    0
+}
+
 // A file of planes, or the number of the first check that fails.
 pub fn save(mode: u32, size: Size, dc: &[i32], low: &[i32], high: &[i32], bytes: &mut [u8]) -> u32
-    ensures { λ r. ⌜ r ≡ saveNumber mode (size .width .0) (size .height .0) (planes (now (dc .entry)) (now (low .entry)) (now (high .entry))) (now (bytes .entry)) ⌝ }
-    ensures { λ _. ⌜ now (bytes .exit) ≡ saved mode (size .width .0) (size .height .0) (planes (now (dc .entry)) (now (low .entry)) (now (high .entry))) (now (bytes .entry)) ⌝ }
+    ensures { λ r. ⌜ r ≡ saveNumber mode size (planes (now (dc .entry)) (now (low .entry)) (now (high .entry))) (now (bytes .entry)) ⌝ }
+    ensures { λ _. ⌜ now (bytes .exit) ≡ saved mode size (planes (now (dc .entry)) (now (low .entry)) (now (high .entry))) (now (bytes .entry)) ⌝ }
 {
-    let number = check_save(mode, size, dc.len(), low.len(), high.len(), bytes.len());
-    if number != 0 {
-        return number;
+    match check_shape(mode, size) {
+        Checked::Refused(number) => number,
+        Checked::Ready(_) => save_sized(mode, size, dc, low, high, bytes),
     }
-    let n = count(size) as usize;
-    save_header(mode, size, bytes);
-    save_plane(dc, bytes, 32);
-    save_plane(low, bytes, 32 + 4 * n);
-    save_plane(high, bytes, 32 + 64 * n);
-    0
 }

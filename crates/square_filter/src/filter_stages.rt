@@ -1,10 +1,11 @@
-// The stages of Figure 4.14, on mirrored fours: p is a d m p of the figure, q is b c n o, r is e h i l, s is f g j k.
+// The stages of Figure 4.14 after its first, on mirrored fours: p is a d m p of the figure, q is b c n o, r is e h i l, s is f g j k.
 ghost use mathlib.Core.Path.{_≡_};
 ghost use Rattle.lifting.specs.Program.{run, undo};
-ghost use Rattle.figures.specs.Figures.{squareFilter};
-ghost use Rattle.blocks.specs.Quads.{mirrored};
+ghost use Rattle.figures.specs.Figures.{postHadamard as postHadamardLines};
+ghost use Rattle.figures.specs.Pieces.{crossedStage};
+ghost use Rattle.blocks.specs.Quads.{mirrored, OnEach};
 use blocks::Quads;
-use core_operators::transform::hadamard;
+use figures::Four;
 use overlap_operators::post_hadamard;
 use overlap_operators::post_odd_odd;
 use overlap_operators::rotation;
@@ -14,66 +15,122 @@ use overlap_operators::undo_post_odd_odd;
 use overlap_operators::undo_rotation;
 use overlap_operators::undo_scale;
 
-pub fn run_filter(v: Quads) -> Quads
-    ensures { λ r. ⌜ mirrored r ≡ run squareFilter (mirrored v) ⌝ }
+// The rotations, Figure 4.12 and the scalings, which go across the fours
+pub fn crossed(v: Quads) -> Quads
+    ensures { λ w. ⌜ mirrored w ≡ run crossedStage (mirrored v) ⌝ }
 {
-    let p = v.p;
-    let q = v.q;
-    let r = v.r;
-    let s = v.s;
-    let admp = hadamard(p.a, p.b, p.c, p.d, 0);
-    let bcno = hadamard(q.a, q.b, q.c, q.d, 0);
-    let ehil = hadamard(r.a, r.b, r.c, r.d, 0);
-    let fgjk = hadamard(s.a, s.b, s.c, s.d, 0);
+    let admp = v.p;
+    let bcno = v.q;
+    let ehil = v.r;
+    let fgjk = v.s;
     let nm = rotation(bcno.c, admp.c);
     let ji = rotation(fgjk.c, ehil.c);
     let hd = rotation(ehil.b, admp.b);
     let gc = rotation(fgjk.b, bcno.b);
-    let klop = post_odd_odd(fgjk.d, ehil.d, bcno.d, admp.d);
+    let klop = post_odd_odd(Four {
+        a: fgjk.d,
+        b: ehil.d,
+        c: bcno.d,
+        d: admp.d,
+    });
     let ap = scale(admp.a, klop.d);
     let bo = scale(bcno.a, klop.c);
     let el = scale(ehil.a, klop.b);
     let fk = scale(fgjk.a, klop.a);
-    let w = post_hadamard(ap.a, hd.b, nm.b, ap.b);
-    let x = post_hadamard(bo.a, gc.b, nm.a, bo.b);
-    let y = post_hadamard(el.a, hd.a, ji.b, el.b);
-    let z = post_hadamard(fk.a, gc.a, ji.a, fk.b);
-    Quads {
-        p: w,
-        q: x,
-        r: y,
-        s: z,
-    }
+    let p = Four {
+        a: ap.a,
+        b: hd.b,
+        c: nm.b,
+        d: ap.b,
+    };
+    let q = Four {
+        a: bo.a,
+        b: gc.b,
+        c: nm.a,
+        d: bo.b,
+    };
+    let r = Four {
+        a: el.a,
+        b: hd.a,
+        c: ji.b,
+        d: el.b,
+    };
+    let s = Four {
+        a: fk.a,
+        b: gc.a,
+        c: ji.a,
+        d: fk.b,
+    };
+    Quads { p, q, r, s }
 }
 
-pub fn undo_filter(v: Quads) -> Quads
-    ensures { λ r. ⌜ mirrored r ≡ undo squareFilter (mirrored v) ⌝ }
+// The same undone
+pub fn undo_crossed(v: Quads) -> Quads
+    ensures { λ w. ⌜ mirrored w ≡ undo crossedStage (mirrored v) ⌝ }
 {
-    let p = v.p;
-    let q = v.q;
-    let r = v.r;
-    let s = v.s;
-    let z = undo_post_hadamard(s.a, s.b, s.c, s.d);
-    let y = undo_post_hadamard(r.a, r.b, r.c, r.d);
-    let x = undo_post_hadamard(q.a, q.b, q.c, q.d);
-    let w = undo_post_hadamard(p.a, p.b, p.c, p.d);
-    let fk = undo_scale(z.a, z.d);
-    let el = undo_scale(y.a, y.d);
-    let bo = undo_scale(x.a, x.d);
-    let ap = undo_scale(w.a, w.d);
-    let klop = undo_post_odd_odd(fk.b, el.b, bo.b, ap.b);
-    let gc = undo_rotation(z.b, x.b);
-    let hd = undo_rotation(y.b, w.b);
-    let ji = undo_rotation(z.c, y.c);
-    let nm = undo_rotation(x.c, w.c);
-    let fgjk = hadamard(fk.a, gc.a, ji.a, klop.a, 0);
-    let ehil = hadamard(el.a, hd.a, ji.b, klop.b, 0);
-    let bcno = hadamard(bo.a, gc.b, nm.a, klop.c, 0);
-    let admp = hadamard(ap.a, hd.b, nm.b, klop.d, 0);
-    Quads {
-        p: admp,
-        q: bcno,
-        r: ehil,
-        s: fgjk,
-    }
+    let admp = v.p;
+    let bcno = v.q;
+    let ehil = v.r;
+    let fgjk = v.s;
+    let fk = undo_scale(fgjk.a, fgjk.d);
+    let el = undo_scale(ehil.a, ehil.d);
+    let bo = undo_scale(bcno.a, bcno.d);
+    let ap = undo_scale(admp.a, admp.d);
+    let klop = undo_post_odd_odd(Four {
+        a: fk.b,
+        b: el.b,
+        c: bo.b,
+        d: ap.b,
+    });
+    let gc = undo_rotation(fgjk.b, bcno.b);
+    let hd = undo_rotation(ehil.b, admp.b);
+    let ji = undo_rotation(fgjk.c, ehil.c);
+    let nm = undo_rotation(bcno.c, admp.c);
+    let p = Four {
+        a: ap.a,
+        b: hd.b,
+        c: nm.b,
+        d: klop.d,
+    };
+    let q = Four {
+        a: bo.a,
+        b: gc.b,
+        c: nm.a,
+        d: klop.c,
+    };
+    let r = Four {
+        a: el.a,
+        b: hd.a,
+        c: ji.b,
+        d: klop.b,
+    };
+    let s = Four {
+        a: fk.a,
+        b: gc.a,
+        c: ji.a,
+        d: klop.a,
+    };
+    Quads { p, q, r, s }
+}
+
+// Figure 4.11 on each four
+pub fn post_hadamards(v: Quads) -> Quads
+    ensures { λ w. ⌜ OnEach (run postHadamardLines) v w ⌝ }
+{
+    let p = post_hadamard(v.p);
+    let q = post_hadamard(v.q);
+    let r = post_hadamard(v.r);
+    let s = post_hadamard(v.s);
+    Quads { p, q, r, s }
+}
+
+// The same undone
+pub fn undo_post_hadamards(v: Quads) -> Quads
+    ensures { λ w. ⌜ OnEach (undo postHadamardLines) v w ⌝ }
+{
+    let s = undo_post_hadamard(v.s);
+    let r = undo_post_hadamard(v.r);
+    let q = undo_post_hadamard(v.q);
+    let p = undo_post_hadamard(v.p);
+    Quads { p, q, r, s }
 }

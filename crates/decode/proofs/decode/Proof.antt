@@ -7,11 +7,10 @@ use borrow.Author.Needs.{needs}
 use lib.ListN.{length, take}
 use lib.Seq.{length-take-le}
 use Rattle.picture.specs.Numbers.{firstOf}
-use Rattle.picture.specs.Planes.{Planes}
+use Rattle.picture.specs.Planes.{Planes, planes}
 use Rattle.plane_file.specs.Header.{answer}
-use Rattle.plane_file.specs.Layout.{planes}
 use Rattle.plane_file.specs.Numbers.{startChecks, totalCheck, countIn, headerNumber}
-use Rattle.plane_file.proofs.Checks.{still-refused, number-of, read-shape, read-count}
+use Rattle.plane_file.proofs.Checks.{still-refused, number-of, read-sized, read-count}
 use Rattle.decode.specs.Program.{countCheck, programNumber, planesOf, samplesOf}
 use Rattle.decode.proofs.Decide.{few, program-number}
 use Rattle.decode.proofs.Front.{left-front, left-whole, plane-of}
@@ -29,12 +28,12 @@ returns c =
     let same = left-whole bytes _ e (c .if1 .taken) in
     (e, (same n (planesOf bytes .dc) (a .dc .now), (same (15 * n) (planesOf bytes .low) (a .low .now), (same (240 * n) (planesOf bytes .high) (a .high .now), same (256 * n) (samplesOf bytes) (a .samples .now)))))
 
-count-requires : tie.Need-count-requires
-count-requires c κs =
-    let r = c .before .before in
+macroblocks-requires : tie.Need-macroblocks-requires
+macroblocks-requires c κs =
+    let e = c .before in
+    let r = e .before .before in
     let bytes = r .before .before .args .bytes .now in
-    let s = read-shape bytes (countCheck (countIn bytes)) _ tt (r .read-small .ensures) (c .if1 .left) in
-    (s .width .1, s .height .1)
+    read-sized bytes (countCheck (countIn bytes)) _ (r .read-small .ensures) (e .if1 .left)
 
 passed : (c : tie.Else1) → let bytes = c .before .before .before .before .args .bytes .now in firstOf (startChecks bytes ++ countCheck (countIn bytes)) ≡ 0
 passed c =
@@ -42,49 +41,55 @@ passed c =
     let bytes = r .before .before .args .bytes .now in
     number-of bytes (startChecks bytes ++ countCheck (countIn bytes)) _ (r .read-small .ensures) ∙ c .if1 .left
 
-counted : (c : tie.After-count) → c .count .result ≡ countIn (c .before .before .before .before .before .args .bytes .now)
+abbrev start : tie.After-macroblocks → tie.Start
+start c = c .before .before .before .before .before .before
+
+counted : (c : tie.After-macroblocks) → c .macroblocks .result .0 ≡ countIn (start c .args .bytes .now)
 counted c =
-    let r = c .before .before .before in
+    let e = c .before .before in
+    let r = e .before .before in
     let bytes = r .before .before .args .bytes .now in
-    c .count .ensures .0 ∙ read-count bytes (startChecks bytes ++ countCheck (countIn bytes)) _ (r .read-small .ensures) (c .before .if1 .left)
+    c .macroblocks .ensures .0 ∙ read-count bytes (startChecks bytes ++ countCheck (countIn bytes)) _ (r .read-small .ensures) (e .if1 .left)
 
 -- how many numbers the front has, and that the memory has as many
-size : (c : tie.After-count) → c .count .result ≤ 16
-size c = omega (arith, counted c, few (c .before .before .before .before .before .args .bytes .now) (passed (c .before)))
+size : (c : tie.After-macroblocks) → c .macroblocks .result .0 ≤ 16
+size c = omega (arith, counted c, few (start c .args .bytes .now) (passed (c .before .before)))
 
-dc-room : (c : tie.After-count) → let s = c .before .before .before .before .before in c .count .result ≤ length (s .args .dc .now)
-dc-room c = let s = c .before .before .before .before .before in omega (arith, size c, s .pre .0)
+dc-room : (c : tie.After-macroblocks) → let s = start c in c .macroblocks .result .0 ≤ length (s .args .dc .now)
+dc-room c = let s = start c in omega (arith, size c, s .pre .0)
 
-low-room : (c : tie.After-count) → let s = c .before .before .before .before .before in 15 * c .count .result ≤ length (s .args .low .now)
-low-room c = let s = c .before .before .before .before .before in omega (arith, size c, s .pre .1)
+low-room : (c : tie.After-macroblocks) → let s = start c in 15 * c .macroblocks .result .0 ≤ length (s .args .low .now)
+low-room c = let s = start c in omega (arith, size c, s .pre .1)
 
-high-room : (c : tie.After-count) → let s = c .before .before .before .before .before in 240 * c .count .result ≤ length (s .args .high .now)
-high-room c = let s = c .before .before .before .before .before in omega (arith, size c, s .pre .2)
+high-room : (c : tie.After-macroblocks) → let s = start c in 240 * c .macroblocks .result .0 ≤ length (s .args .high .now)
+high-room c = let s = start c in omega (arith, size c, s .pre .2)
 
-sample-room : (c : tie.After-count) → let s = c .before .before .before .before .before in 256 * c .count .result ≤ length (s .args .samples .now)
-sample-room c = let s = c .before .before .before .before .before in omega (arith, size c, s .pre .3)
+sample-room : (c : tie.After-macroblocks) → let s = start c in 256 * c .macroblocks .result .0 ≤ length (s .args .samples .now)
+sample-room c = let s = start c in omega (arith, size c, s .pre .3)
 
 transform-requires : tie.Need-transform-requires
 transform-requires c κs =
-    let a = c .before .before .before .before in
+    let a = c .before .before .before .before .before in
     let e = counted a in (
-      length-take-le _ _ (dc-room a) ∙ e,
-      length-take-le _ _ (low-room a) ∙ ap (λ (n : ℕ). 15 * n) e,
-      length-take-le _ _ (high-room a) ∙ ap (λ (n : ℕ). 240 * n) e,
+      record {
+        dc = length-take-le _ _ (dc-room a) ∙ e;
+        low = length-take-le _ _ (low-room a) ∙ ap (λ (n : ℕ). 15 * n) e;
+        high = length-take-le _ _ (high-room a) ∙ ap (λ (n : ℕ). 240 * n) e;
+      },
       length-take-le _ _ (sample-room a) ∙ ap (λ (n : ℕ). 256 * n) e,
     )
 
 returns-2 : tie.Need-returns-2
 returns-2 c =
     let t = c .before .before .before .before in
-    let b = t .before .before .before .before .before in
-    let a = b .before .before .before .before .before .args in
+    let b = t .before .before .before .before .before .before in
+    let a = start b .args in
     let bytes = a .bytes .now in
     let n = countIn bytes in
     let k = headerNumber bytes in
-    let p = program-number bytes (passed (b .before)) in
+    let p = program-number bytes (passed (b .before .before)) in
     let e = counted b in
-    let was = planes (take (b .count .result) (a .dc .now)) (take (15 * b .count .result) (a .low .now)) (take (240 * b .count .result) (a .high .now)) in
+    let was = planes (take (b .macroblocks .result .0) (a .dc .now)) (take (15 * b .macroblocks .result .0) (a .low .now)) (take (240 * b .macroblocks .result .0) (a .high .now)) in
     let s = t .transform .ensures .1 .0 in (
       t .transform .ensures .0 ∙ ap (λ (j : ℕ). answer j bytes) p,
       (
@@ -102,8 +107,8 @@ returns-2 c =
 pub decode-spec : {M : Type 1} → statement M
 decode-spec =
     tie.close
-    (tie.spec (λ c κs. search needs) returns count-requires (λ c. search needs) (λ c. search needs) (λ c. search needs) (λ c. search needs)
-    dc-room (λ c. sym (length-take-le _ _ (dc-room (c .before)))) (λ c. low-room (c .before)) (λ c. sym (length-take-le _ _ (low-room (c .before .before))))
-    (λ c. high-room (c .before .before)) (λ c. sym (length-take-le _ _ (high-room (c .before .before .before))))
-    (λ c. sample-room (c .before .before .before)) (λ c. sym (length-take-le _ _ (sample-room (c .before .before .before .before))))
+    (tie.spec (λ c κs. search needs) returns macroblocks-requires (λ c. search needs) (λ c. search needs) (λ c. search needs) (λ c. search needs)
+    (λ c. dc-room (c .before)) (λ c. sym (length-take-le _ _ (dc-room (c .before .before)))) (λ c. low-room (c .before .before)) (λ c. sym (length-take-le _ _ (low-room (c .before .before .before))))
+    (λ c. high-room (c .before .before .before)) (λ c. sym (length-take-le _ _ (high-room (c .before .before .before .before))))
+    (λ c. sample-room (c .before .before .before .before)) (λ c. sym (length-take-le _ _ (sample-room (c .before .before .before .before .before))))
     transform-requires (λ c. search needs) (λ c. search needs) (λ c. search needs) (λ c. search needs) returns-2)

@@ -4,7 +4,7 @@ use native.Mathlib.Omega.{arith}
 use mathlib.Core.List.{[]}
 use borrow.Author.Needs.{needs}
 use Rattle.plane_file.specs.Numbers.{startChecks, countIn}
-use Rattle.plane_file.proofs.Checks.{still-refused, next-refused, next-done, read-shape, read-count}
+use Rattle.plane_file.proofs.Checks.{still-refused, next-refused, next-done, read-sized, read-count}
 use Rattle.decode.specs.Program.{countCheck}
 use Rattle.decode.proofs.Decide.{count-off, count-on}
 use Rattle.decode.proofs.read_small.Statement.{statement}
@@ -16,36 +16,37 @@ returns c =
     let bytes = c2 .before .before .args .bytes .now in
     still-refused bytes (startChecks bytes) _ (c2 .read-start .ensures) (countCheck (countIn bytes)) (c .if1 .taken)
 
-count-requires : tie.Need-count-requires
-count-requires c κs =
-    let c2 = c .before .before in
-    let s = read-shape (c2 .before .before .args .bytes .now) [] _ tt (c2 .read-start .ensures) (c .if1 .left) in
-    (s .width .1, s .height .1)
+macroblocks-requires : tie.Need-macroblocks-requires
+macroblocks-requires c κs =
+    let e = c .before in
+    let r = e .before .before in
+    read-sized (r .before .before .args .bytes .now) [] _ (r .read-start .ensures) (e .if1 .left)
 
-counted : (c : tie.After-count) → c .count .result ≡ countIn (c .before .before .before .before .before .args .bytes .now)
+counted : (c : tie.After-macroblocks) → c .macroblocks .result .0 ≡ countIn (c .before .before .before .before .before .before .args .bytes .now)
 counted c =
-    let c1 = c .before in
-    let c3 = c1 .before .before in
-    let bytes = c3 .before .before .args .bytes .now in
-    c .count .ensures .0 ∙ read-count bytes (startChecks bytes) _ (c3 .read-start .ensures) (c1 .if1 .left)
+    let e = c .before .before in
+    let r = e .before .before in
+    let bytes = r .before .before .args .bytes .now in
+    c .macroblocks .ensures .0 ∙ read-count bytes (startChecks bytes) _ (r .read-start .ensures) (e .if1 .left)
 
 returns-2 : tie.Need-returns-2
 returns-2 c =
-    let c2 = c .before .before in
-    let c3 = c2 .before in
-    let c5 = c3 .before .before in
-    let bytes = c5 .before .before .args .bytes .now in
-    c .header-of .ensures
-    ∙ next-refused bytes (startChecks bytes) _ (c5 .read-start .ensures) (countCheck (countIn bytes)) tt (c3 .if1 .left) (count-off _ _ (counted c2) (c .before .if2 .taken)) (λ e. omega (arith, e))
+    let f = c .before in
+    let m = f .before .before in
+    let e = m .before .before in
+    let r = e .before .before in
+    let bytes = r .before .before .args .bytes .now in
+    c .refused .ensures
+    ∙ next-refused bytes (startChecks bytes) _ (r .read-start .ensures) (countCheck (countIn bytes)) (e .if1 .left) (count-off _ _ (counted m) (f .if2 .taken)) (λ z. omega (arith, z))
 
 returns-3 : tie.Need-returns-3
 returns-3 c =
-    let c1 = c .before in
-    let c2 = c1 .before in
-    let c4 = c2 .before .before in
-    let bytes = c4 .before .before .args .bytes .now in
-    next-done bytes (startChecks bytes) _ (c4 .read-start .ensures) (countCheck (countIn bytes)) tt (c2 .if1 .left) (count-on _ _ (counted c1) (c .if2 .left))
+    let m = c .before .before in
+    let e = m .before .before in
+    let r = e .before .before in
+    let bytes = r .before .before .args .bytes .now in
+    next-done bytes (startChecks bytes) _ (r .read-start .ensures) (countCheck (countIn bytes)) (e .if1 .left) (count-on _ _ (counted m) (c .if2 .left))
 
 pub read-small-spec : {M : Type 1} → statement M
 read-small-spec =
-    tie.close (tie.spec (λ c κs. search needs) returns count-requires (λ c κs. search needs) returns-2 returns-3)
+    tie.close (tie.spec (λ c κs. search needs) returns macroblocks-requires (λ c κs. search needs) returns-2 returns-3)

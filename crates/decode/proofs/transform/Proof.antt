@@ -3,9 +3,8 @@ use Prim.Native.Nat.{ℕ}
 use mathlib.Core.Path.{_≡_, ap, _∙_}
 use borrow.Author.Needs.{needs}
 use Rattle.picture.specs.Numbers.{settled}
-use Rattle.picture.specs.Planes.{Planes}
+use Rattle.picture.specs.Planes.{Planes, planes}
 use Rattle.plane_file.specs.Header.{answer}
-use Rattle.plane_file.specs.Layout.{planes}
 use Rattle.plane_file.specs.Numbers.{headerNumber, loadNumber}
 use Rattle.plane_file.proofs.Checks.{unchanged}
 use Rattle.decode.specs.Program.{planesOf, samplesOf}
@@ -17,7 +16,7 @@ abbrev was : tie.Start → Planes
 was s = planes (s .args .dc .now) (s .args .low .now) (s .args .high .now)
 
 number : (s : tie.Start) → loadNumber (s .args .bytes .now) (was s) ≡ headerNumber (s .args .bytes .now)
-number s = load-number (s .args .bytes .now) (was s) (record { dc = s .pre .0; low = s .pre .1; high = s .pre .2 })
+number s = load-number (s .args .bytes .now) (was s) (s .pre .0)
 
 head : (c : tie.After-load) → let bytes = c .before .before .before .before .before .args .bytes .now in c .load .result ≡ answer (headerNumber bytes) bytes
 head c =
@@ -45,7 +44,7 @@ returns-2 c =
       e,
       (
         p,
-        samples-are bytes _ e (z .if1 .left) _ (was s) p (record { dc = k .1 .0 ∙ s .pre .0; low = k .1 .1 .0 ∙ s .pre .1; high = k .1 .1 .1 .0 ∙ s .pre .2 }) (s .args .samples .now) (s .pre .3) (i .inverse .ensures .0) (i .inverse .ensures .1),
+        samples-are bytes _ e (z .if1 .left) _ (was s) p (record { dc = k .1 .0 ∙ s .pre .0 .dc; low = k .1 .1 .0 ∙ s .pre .0 .low; high = k .1 .1 .1 .0 ∙ s .pre .0 .high }) (s .args .samples .now) (s .pre .1) (i .inverse .ensures .0) (i .inverse .ensures .1),
       ),
     )
 

@@ -1,46 +1,56 @@
--- A refusal leaves all as it was; else the planes are those of the definition.
-use mathlib.Core.Path.{sym, _∙_}
+-- The checks of mode and size refuse, or give the mode; then those of the lengths decide.
+use mathlib.Core.Path.{_≡_, sym, _∙_, ap}
+use mathlib.Core.List.{List, _++_}
+use Prim.Native.Nat.{ℕ}
 use borrow.Author.Needs.{needs}
-use Rattle.picture.specs.Claims.{Shape}
-use Rattle.picture.specs.Transform.{forward, firstUndone, secondUndone}
-use Rattle.forward.specs.Lent.{Lent}
-use Rattle.picture.proofs.NumberLaws.{settled-refused}
-use Rattle.picture.proofs.CheckLaws.{known-filters, is-known}
-use Rattle.forward.proofs.Checks.{all-passed}
+use Rattle.picture.specs.declared.mode.Mode.{Mode}
+use Rattle.picture.specs.Sizes.{macroblocks}
+use Rattle.picture.specs.Modes.{modeOf}
+use Rattle.picture.specs.Planes.{Planes, planes}
+use Rattle.picture.specs.Numbers.{settled, planeChecks, sampleCheck, forwardNumber}
+use Rattle.picture.specs.Transform.{forwardBy}
+use Rattle.picture.proofs.CheckLaws.{refused-call, ready-number, ready-mode, ready-sized}
 use Rattle.forward.proofs.forward.Statement.{statement}
 use Rattle.forward.proofs.forward.Tie as tie
 
-returns : tie.Need-returns
-returns c =
-    let n = c .if1 .taken in
-    (c .before .check .ensures, (sym (settled-refused _ _ _ n), (sym (settled-refused _ _ _ n), sym (settled-refused _ _ _ n))))
+abbrev was : tie.Start → Planes
+was s = planes (s .args .dc .now) (s .args .low .now) (s .args .high .now)
 
--- the checks have passed
-past : (c : tie.Else1) → let a = c .before .before .args in Shape (a .mode) (a .size .width .0) (a .size .height .0) × Lent (a .size .width .0) (a .size .height .0) (a .samples .now) (a .dc .now) (a .low .now) (a .high .now)
-past c =
-    let a = c .before .before .args in
-    all-passed (a .mode) (a .size .width .0) (a .size .height .0) (a .samples .now) (a .dc .now) (a .low .now) (a .high .now) (sym (c .before .check .ensures) ∙ c .if1 .left)
+-- the checks of the lengths
+abbrev rest : tie.Start → List ℕ
+rest s = sampleCheck (macroblocks (s .args .size)) (s .args .samples .now) ++ planeChecks (macroblocks (s .args .size)) (was s)
+
+abbrev result : tie.Start → Mode → Planes
+result s m = forwardBy m (s .args .size) (s .args .samples .now)
+
+forward-sized-requires : tie.Need-forward-sized-requires
+forward-sized-requires c κs =
+    let k = c .before .before .before .before in
+    let n = k .before .before in
+    let s = n .before in
+    ready-sized (s .args .mode) (s .args .size) (rest s) (sym (k .known .given .1) ∙ n .check-shape .ensures)
+
+returns : tie.Need-returns
+unfolding forwardNumber
+returns c =
+    let k = c .before in
+    let n = k .before .before in
+    let s = n .before in
+    refused-call (s .args .mode) (s .args .size) (rest s) (result s (modeOf (s .args .mode))) (was s) (sym (k .number .given .1) ∙ n .check-shape .ensures)
 
 returns-2 : tie.Need-returns-2
+unfolding forwardNumber
 returns-2 c =
-    let f = c .before .before in
-    absurd (is-known _ (past (f .before) .0 .known) (sym (c .enum-told .given .1) ∙ f .from-number .ensures))
-
-returns-3 : tie.Need-returns-3
-unfolding forward firstUndone secondUndone
-returns-3 c =
-    let t = c .before .before .before in
-    let k = t .before .before .before .before in
-    let f = k .before .before .before in
-    let e = f .before in
-    let g = k .before .answer .given in
-    let m = known-filters _ (g .0 .0) (past e .0 .known) (sym (g .1) ∙ f .from-number .ensures) in
-    let o = t .transform .ensures in
-    (sym (e .if1 .left) ∙ e .before .check .ensures, (rw (m .one, m .two) at (o .0), (rw (m .one, m .two) at (o .1 .0), rw (m .two) at (o .1 .1))))
+    let d = c .before .before .before in
+    let k = d .before .before .before .before .before in
+    let n = k .before .before in
+    let s = n .before in
+    let e = sym (k .known .given .1) ∙ n .check-shape .ensures in
+    let r = d .forward-sized .result in (
+      ready-number (s .args .mode) (s .args .size) (rest s) e (d .forward-sized .ensures .0),
+      d .forward-sized .ensures .1 ∙ ap (λ (m : Mode). settled r (result s m) (was s)) (ready-mode (s .args .mode) (s .args .size) (rest s) e),
+    )
 
 pub forward-spec : {M : Type 1} → statement M
 forward-spec =
-    tie.close
-    (tie.spec (λ c κs. tt) returns (λ c κs. tt) (λ c. search needs) (λ c. search needs) returns-2 (λ c. search needs) (λ c. search needs)
-    (λ c κs. past (c .before .before .before .before .before .before .before) .1)
-    (λ c. c .before .before .before .transform .kept .1 .1 .1 .1 .0) (λ c. c .before .before .before .transform .kept .1 .1 .1 .1 .1 .0) (λ c. c .before .before .before .transform .kept .1 .1 .1 .1 .1 .1 .0) returns-3)
+    tie.close (tie.spec (λ c κs. search needs) (λ c. search needs) (λ c. search needs) forward-sized-requires returns (λ c. search needs) (λ c. search needs) (λ c. search needs) returns-2)

@@ -1,86 +1,52 @@
--- The checks in their order, each passed to reach the next; and where all pass, level one.
-use Prim.Native.Nat.{_*_, _≤_}
-use mathlib.Core.Path.{_≡_, refl, sym, _∙_}
-use mathlib.Core.List.{List}
-use native.Mathlib.Omega.{arith}
+-- The checks of mode and size refuse, or give the mode; then those of the lengths decide.
+use mathlib.Core.Path.{_≡_, sym, _∙_, ap}
+use mathlib.Core.List.{List, _++_}
+use Prim.Native.Nat.{ℕ}
 use borrow.Author.Needs.{needs}
-use borrow.Author.Tests.{eq-eqb, ne-eqb}
-use lib.ListN.{length}
-use Rattle.picture.specs.Claims.{Shape}
-use Rattle.picture.specs.Numbers.{Check, shapeChecks, lowChecks, viewCheck, quarterNumber}
-use Rattle.picture.proofs.NumberLaws.{settled-refused}
-use Rattle.picture.proofs.CheckLaws.{Filters, known-filters, is-known}
-use Rattle.inverse.proofs.Checks.{shape-passed, low-passed, most, refused-one, refused-two, number-three, quarter-is}
+use lib.IntN.{ℤ}
+use Rattle.picture.specs.declared.mode.Mode.{Mode}
+use Rattle.picture.specs.Sizes.{macroblocks}
+use Rattle.picture.specs.Modes.{modeOf}
+use Rattle.picture.specs.Numbers.{settled, lowChecks, viewCheck, quarterNumber}
+use Rattle.picture.specs.Transform.{quarterBy}
+use Rattle.picture.proofs.CheckLaws.{refused-call, ready-number, ready-mode, ready-sized}
 use Rattle.inverse.proofs.quarter_view.Statement.{statement}
 use Rattle.inverse.proofs.quarter_view.Tie as tie
 
--- the three groups of checks
-abbrev shapes : tie.Start → List Check
-shapes s = shapeChecks (s .args .mode) (s .args .size .width .0) (s .args .size .height .0)
+-- the checks of the lengths
+abbrev rest : tie.Start → List ℕ
+rest s = lowChecks (macroblocks (s .args .size)) (s .args .dc .now) (s .args .low .now) ++ viewCheck (macroblocks (s .args .size)) (s .args .view .now)
 
-abbrev planes : tie.Start → List Check
-planes s = lowChecks (s .args .size .width .0 * s .args .size .height .0) (length (s .args .dc .now)) (length (s .args .low .now))
+abbrev result : tie.Start → Mode → List ℤ
+result s m = quarterBy m (s .args .size) (s .args .dc .now) (s .args .low .now)
 
-abbrev result : tie.Start → List Check
-result s = viewCheck (s .args .size .width .0 * s .args .size .height .0) (length (s .args .view .now))
-
-shape : (c : tie.Else1) → Shape (c .before .before .args .mode) (c .before .before .args .size .width .0) (c .before .before .args .size .height .0)
-shape c = shape-passed _ _ _ (c .before .check-shape .ensures) (c .if1 .left)
+quarter-sized-requires : tie.Need-quarter-sized-requires
+quarter-sized-requires c κs =
+    let k = c .before .before in
+    let n = k .before .before in
+    let s = n .before in
+    ready-sized (s .args .mode) (s .args .size) (rest s) (sym (k .known .given .1) ∙ n .check-shape .ensures)
 
 returns : tie.Need-returns
 unfolding quarterNumber
 returns c =
-    let s = c .before .before in
-    (refused-one (shapes s) (planes s) (result s) (c .before .check-shape .ensures) (c .if1 .taken), sym (settled-refused _ _ _ (c .if1 .taken)))
+    let k = c .before in
+    let n = k .before .before in
+    let s = n .before in
+    refused-call (s .args .mode) (s .args .size) (rest s) (result s (modeOf (s .args .mode))) (s .args .view .now) (sym (k .number .given .1) ∙ n .check-shape .ensures)
 
 returns-2 : tie.Need-returns-2
 unfolding quarterNumber
 returns-2 c =
-    let e = c .before .before .before .before in
-    let s = e .before .before in (
-      refused-two (shapes s) (planes s) (result s) (e .before .check-shape .ensures) tt (e .if1 .left) (c .before .check-low .ensures) (c .if2 .taken),
-      sym (settled-refused _ _ _ (c .if2 .taken)),
-    )
-
-returns-3 : tie.Need-returns-3
-unfolding quarterNumber
-returns-3 c =
-    let p = c .before in
-    let e = p .before .before .before .before in
-    let s = e .before .before in (
-      number-three (shapes s) (planes s) (result s) (e .before .check-shape .ensures) tt (e .if1 .left) (p .before .check-low .ensures) tt (p .if2 .left) (simp (ne-eqb _ _ (c .if3 .taken))),
-      refl,
-    )
-
-returns-4 : tie.Need-returns-4
-returns-4 c =
-    let n = c .before .before in
-    let e = n .before .before .before .before .before .before in
-    absurd (is-known _ (shape e .known) (sym (c .enum-told .given .1) ∙ n .from-number .ensures))
-
-first-level-requires : tie.Need-first-level-requires
-first-level-requires c κs =
-    let l = c .before .before .before .before .before in
-    let p = l .before in
-    let s = shape (p .before .before .before .before) in
-    ((s .width .0, s .width .1, s .height .0, s .height .1), (l .if3 .left, low-passed _ _ _ (p .before .check-low .ensures) (p .if2 .left)))
-
-returns-5 : tie.Need-returns-5
-unfolding quarterNumber
-returns-5 c =
-    let k = c .before .before .before .before in
+    let d = c .before in
+    let k = d .before .before .before in
     let n = k .before .before in
-    let l = n .before in
-    let p = l .before in
-    let e = p .before .before .before .before in
-    let s = e .before .before in (
-      number-three (shapes s) (planes s) (result s) (e .before .check-shape .ensures) tt (e .if1 .left) (p .before .check-low .ensures) tt (p .if2 .left) (simp (eq-eqb _ _ (l .if3 .left))),
-      quarter-is (s .args .mode) _ _ (k .known .given .0 .0) (known-filters _ _ (shape e .known) (sym (k .known .given .1) ∙ n .from-number .ensures)) _ _ (c .before .first-level .ensures),
+    let s = n .before in
+    let e = sym (k .known .given .1) ∙ n .check-shape .ensures in
+    let r = d .quarter-sized .result in (
+      ready-number (s .args .mode) (s .args .size) (rest s) e (d .quarter-sized .ensures .0),
+      d .quarter-sized .ensures .1 ∙ ap (λ (m : Mode). settled r (result s m) (s .args .view .now)) (ready-mode (s .args .mode) (s .args .size) (rest s) e),
     )
 
 pub quarter-view-spec : {M : Type 1} → statement M
-quarter-view-spec =
-    tie.close
-    (tie.spec (λ c κs. search needs) returns (λ c. search needs) (λ c. search needs) (λ c. omega (arith, most (shape (c .before .before))))
-    (λ c κs. omega (arith, most (shape (c .before .before)))) returns-2 (λ c. omega (arith, most (shape (c .before .before .before .before)))) returns-3 (λ c κs. search needs)
-    (λ c. search needs) (λ c. search needs) returns-4 first-level-requires (λ c. search needs) returns-5)
+quarter-view-spec = tie.close (tie.spec (λ c κs. search needs) (λ c. search needs) (λ c. search needs) quarter-sized-requires returns (λ c. search needs) returns-2)

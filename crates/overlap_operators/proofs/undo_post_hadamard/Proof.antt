@@ -1,10 +1,10 @@
 -- The lines of Figure 4.11 from the last to the first, each by what its calls ensure.
-use mir.Syntax.{w32}
-use mir.ValLaws.{toZ-ofZ}
+use mathlib.Core.Path.{ap}
 use Rattle.lifting.specs.Program.{undo, back, line, value}
 use Rattle.lifting.proofs.Bits.{again, again-shr}
 use borrow.Author.Needs.{needs}
 use Rattle.figures.specs.Figures.{postHadamard}
+use Rattle.figures.proofs.Parts.{told}
 use Rattle.overlap_operators.proofs.undo_post_hadamard.Statement.{statement}
 use Rattle.overlap_operators.proofs.undo_post_hadamard.Tie as tie
 
@@ -20,8 +20,10 @@ returns c10 =
     let c3 = c4 .before in
     let c2 = c3 .before in
     let c1 = c2 .before in
-    let f = c1 .before .fits in
-    simp (c10 .add3 .ensures, c9 .sub4 .ensures, c8 .scaled .ensures, c7 .add2 .ensures, c6 .shift2 .ensures, c5 .sub3 .ensures, c4 .shift .ensures, c3 .sub2 .ensures, c2 .add .ensures, c1 .sub .ensures, again, again-shr, toZ-ofZ w32 _ (f .a), toZ-ofZ w32 _ (f .b), toZ-ofZ w32 _ (f .c), toZ-ofZ w32 _ (f .d))
+    let t4 = c1 .before in
+    let e = t4 .before .before .before .before in
+    let t = told (e .args .v) (t4 .struct-told4 .given) in
+    simp (c10 .add3 .ensures, c9 .sub4 .ensures, c8 .scaled .ensures, c7 .add2 .ensures, c6 .shift2 .ensures, c5 .sub3 .ensures, c4 .shift .ensures, c3 .sub2 .ensures, c2 .add .ensures, c1 .sub .ensures, again, again-shr, ap (λ x. x .a) t, ap (λ x. x .b) t, ap (λ x. x .c) t, ap (λ x. x .d) t)
 
 pub undo-post-hadamard-spec : {M : Type 1} → statement M
 undo-post-hadamard-spec = tie.close (tie.spec (λ c κs. tt) (λ c κs. tt) (λ c κs. tt) (λ c κs. search needs) (λ c κs. tt) (λ c κs. search needs) (λ c κs. tt) (λ c κs. search needs) (λ c κs. tt) (λ c κs. tt) returns)

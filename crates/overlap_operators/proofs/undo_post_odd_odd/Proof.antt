@@ -1,33 +1,13 @@
--- The lines of Figure 4.12 from the last to the first, each by what its calls ensure.
-use mir.Syntax.{w32}
-use mir.ValLaws.{toZ-ofZ}
-use Rattle.lifting.specs.Program.{undo, back, line, value}
-use Rattle.lifting.proofs.Bits.{again, again-shr}
-use borrow.Author.Needs.{needs}
-use Rattle.figures.specs.Figures.{postOddOdd}
+-- The shared lines with the roundings of Figure 4.12, undone.
+use mathlib.Core.Path.{_∙_, ap}
+use Rattle.lifting.specs.Program.{undo}
+use Rattle.figures.specs.Block.{list}
+use Rattle.figures.proofs.Figures.{post-odd-odd-pieces}
 use Rattle.overlap_operators.proofs.undo_post_odd_odd.Statement.{statement}
 use Rattle.overlap_operators.proofs.undo_post_odd_odd.Tie as tie
 
 returns : tie.Need-returns
-unfolding undo back line value postOddOdd
-returns c16 =
-    let c15 = c16 .before in
-    let c14 = c15 .before in
-    let c13 = c14 .before in
-    let c12 = c13 .before in
-    let c11 = c12 .before in
-    let c10 = c11 .before in
-    let c9 = c10 .before in
-    let c8 = c9 .before in
-    let c7 = c8 .before in
-    let c6 = c7 .before in
-    let c5 = c6 .before in
-    let c4 = c5 .before in
-    let c3 = c4 .before in
-    let c2 = c3 .before in
-    let c1 = c2 .before in
-    let f = c1 .before .fits in
-    simp (c16 .sub5 .ensures, c15 .add6 .ensures, c14 .add5 .ensures, c13 .sub4 .ensures, c12 .add4 .ensures, c11 .scaled3 .ensures, c10 .sub3 .ensures, c9 .scaled2 .ensures, c8 .add3 .ensures, c7 .scaled .ensures, c6 .add2 .ensures, c5 .sub2 .ensures, c4 .shift2 .ensures, c3 .shift .ensures, c2 .sub .ensures, c1 .add .ensures, again, again-shr, toZ-ofZ w32 _ (f .a), toZ-ofZ w32 _ (f .b), toZ-ofZ w32 _ (f .c), toZ-ofZ w32 _ (f .d))
+returns c = c .undo-odd-odd-rounded .ensures ∙ ap (λ p. undo p (list (c .before .args .v))) post-odd-odd-pieces
 
 pub undo-post-odd-odd-spec : {M : Type 1} → statement M
-undo-post-odd-odd-spec = tie.close (tie.spec (λ c κs. tt) (λ c κs. tt) (λ c κs. search needs) (λ c κs. search needs) (λ c κs. tt) (λ c κs. tt) (λ c κs. search needs) (λ c κs. tt) (λ c κs. search needs) (λ c κs. tt) (λ c κs. search needs) (λ c κs. tt) (λ c κs. tt) (λ c κs. tt) (λ c κs. tt) (λ c κs. tt) returns)
+undo-post-odd-odd-spec = tie.close (tie.spec (λ c κs. tt) returns)

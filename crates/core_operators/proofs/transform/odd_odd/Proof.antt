@@ -1,35 +1,20 @@
--- The lines of Figure 4.6 in turn, each by what its calls ensure.
-use mir.Syntax.{w32}
-use mir.ValLaws.{toZ-ofZ}
-use Rattle.lifting.specs.Program.{run, line, value}
-use Rattle.lifting.proofs.Bits.{again, again-shr}
-use borrow.Author.Needs.{needs}
-use Rattle.figures.specs.Figures.{oddOdd}
+-- The shared lines with the roundings of Figure 4.6, and then its two negations.
+use Rattle.lifting.proofs.Bits.{again}
+use Rattle.figures.proofs.Figures.{odd-odd-pieces}
+use Rattle.figures.proofs.Parts.{place, four}
 use Rattle.core_operators.proofs.transform.odd_odd.Statement.{statement}
 use Rattle.core_operators.proofs.transform.odd_odd.Tie as tie
 
 returns : tie.Need-returns
-unfolding run line value oddOdd
-returns c18 =
-    let c17 = c18 .before in
-    let c16 = c17 .before in
-    let c15 = c16 .before in
-    let c14 = c15 .before in
-    let c13 = c14 .before in
-    let c12 = c13 .before in
-    let c11 = c12 .before in
-    let c10 = c11 .before in
-    let c9 = c10 .before in
-    let c8 = c9 .before in
-    let c7 = c8 .before in
-    let c6 = c7 .before in
+returns c6 =
     let c5 = c6 .before in
     let c4 = c5 .before in
     let c3 = c4 .before in
     let c2 = c3 .before in
     let c1 = c2 .before in
-    let f = c1 .before .fits in
-    simp (c18 .negate2 .ensures, c17 .negate .ensures, c16 .sub6 .ensures, c15 .add5 .ensures, c14 .add4 .ensures, c13 .sub5 .ensures, c12 .sub4 .ensures, c11 .scaled3 .ensures, c10 .add3 .ensures, c9 .scaled2 .ensures, c8 .sub3 .ensures, c7 .scaled .ensures, c6 .add2 .ensures, c5 .sub2 .ensures, c4 .shift2 .ensures, c3 .shift .ensures, c2 .sub .ensures, c1 .add .ensures, again, again-shr, toZ-ofZ w32 _ (f .a), toZ-ofZ w32 _ (f .b), toZ-ofZ w32 _ (f .c), toZ-ofZ w32 _ (f .d))
+    let o = four (c2 .struct-told .given) (c1 .odd-odd-rounded .ensures) in
+    simp (c5 .negate2 .ensures, c3 .negate .ensures, again, place 0 o, place 1 o, place 2 o, place 3 o)
+    (odd-odd-pieces _ _ _ _)
 
 pub odd-odd-spec : {M : Type 1} → statement M
-odd-odd-spec = tie.close (tie.spec (λ c κs. tt) (λ c κs. tt) (λ c κs. search needs) (λ c κs. search needs) (λ c κs. tt) (λ c κs. tt) (λ c κs. search needs) (λ c κs. tt) (λ c κs. search needs) (λ c κs. tt) (λ c κs. search needs) (λ c κs. tt) (λ c κs. tt) (λ c κs. tt) (λ c κs. tt) (λ c κs. tt) (λ c κs. tt) (λ c κs. tt) returns)
+odd-odd-spec = tie.close (tie.spec (λ c κs. tt) (λ c κs. tt) (λ c κs. tt) returns)

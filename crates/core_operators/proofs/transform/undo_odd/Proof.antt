@@ -1,10 +1,10 @@
 -- The lines of Figure 4.5 from the last to the first, each by what its calls ensure.
-use mir.Syntax.{w32}
-use mir.ValLaws.{toZ-ofZ}
+use mathlib.Core.Path.{ap}
 use Rattle.lifting.specs.Program.{undo, back, line, value}
 use Rattle.lifting.proofs.Bits.{again, again-shr}
 use borrow.Author.Needs.{needs}
 use Rattle.figures.specs.Figures.{odd}
+use Rattle.figures.proofs.Parts.{told}
 use Rattle.core_operators.proofs.transform.undo_odd.Statement.{statement}
 use Rattle.core_operators.proofs.transform.undo_odd.Tie as tie
 
@@ -30,8 +30,11 @@ returns c20 =
     let c3 = c4 .before in
     let c2 = c3 .before in
     let c1 = c2 .before in
-    let f = c1 .before .fits in
-    simp (c20 .sub6 .ensures, c19 .add6 .ensures, c18 .add5 .ensures, c17 .shift .ensures, c16 .sub5 .ensures, c15 .rounded3 .ensures, c14 .add4 .ensures, c13 .scaled4 .ensures, c12 .sub4 .ensures, c11 .scaled3 .ensures, c10 .add3 .ensures, c9 .scaled2 .ensures, c8 .sub3 .ensures, c7 .scaled .ensures, c6 .add2 .ensures, c5 .rounded2 .ensures, c4 .sub2 .ensures, c3 .rounded .ensures, c2 .sub .ensures, c1 .add .ensures, again, again-shr, toZ-ofZ w32 _ (f .a), toZ-ofZ w32 _ (f .b), toZ-ofZ w32 _ (f .c), toZ-ofZ w32 _ (f .d))
+    let t4 = c1 .before in
+    let e = t4 .before .before .before .before in
+    let t = told (e .args .v) (t4 .struct-told4 .given) in
+    simp (c20 .sub6 .ensures, c19 .add6 .ensures, c18 .add5 .ensures, c17 .shift .ensures, c16 .sub5 .ensures, c15 .rounded3 .ensures, c14 .add4 .ensures, c13 .scaled4 .ensures, c12 .sub4 .ensures, c11 .scaled3 .ensures, c10 .add3 .ensures, c9 .scaled2 .ensures, again, again-shr)
+    (simp (c8 .sub3 .ensures, c7 .scaled .ensures, c6 .add2 .ensures, c5 .rounded2 .ensures, c4 .sub2 .ensures, c3 .rounded .ensures, c2 .sub .ensures, c1 .add .ensures, again, again-shr, ap (λ x. x .a) t, ap (λ x. x .b) t, ap (λ x. x .c) t, ap (λ x. x .d) t))
 
 pub undo-odd-spec : {M : Type 1} → statement M
 undo-odd-spec = tie.close (tie.spec (λ c κs. tt) (λ c κs. tt) (λ c κs. search needs) (λ c κs. tt) (λ c κs. search needs) (λ c κs. tt) (λ c κs. search needs) (λ c κs. tt) (λ c κs. search needs) (λ c κs. tt) (λ c κs. search needs) (λ c κs. tt) (λ c κs. search needs) (λ c κs. tt) (λ c κs. search needs) (λ c κs. tt) (λ c κs. search needs) (λ c κs. tt) (λ c κs. tt) (λ c κs. tt) returns)

@@ -7,8 +7,8 @@ use lib.ListN.{length}
 use lib.Seq.{length-take-le}
 use Rattle.decimal.specs.Text.{refusedLine, over}
 use Rattle.decimal.proofs.Room.{count-fits, written-fits}
-use Rattle.picture.specs.Claims.{Shape}
-use Rattle.decode.proofs.Pictures.{refused-length, refused-shown, shape, small, area, samples-row, front-is, rows-shown}
+use Rattle.picture.specs.Sizes.{Sized}
+use Rattle.decode.proofs.Pictures.{refused-length, refused-shown, sized, small, area, samples-row, front-is, rows-shown}
 use Rattle.decode.proofs.text.show.Statement.{statement}
 use Rattle.decode.proofs.text.show.Tie as tie
 
@@ -27,29 +27,30 @@ returns c =
     let size = w .write-refused .ensures .0 ∙ count-fits line (length out) room in
     ((size ∙ ap length e, omega (arith, size, short)), w .write-refused .ensures .1 ∙ written-fits line out room ∙ ap (over out 0) e)
 
-picture : (c : tie.Else1) → let r = c .before .before .before .before .before .before .decode .result in Shape (r .mode) (r .size .width .0) (r .size .height .0)
+picture : (c : tie.Else1) → Sized (c .before .before .before .before .before .before .decode .result .size)
 picture c =
     let d = c .before .before .before .before .before .before in
     let s = d .before .before .before .before .before .before .before in
-    shape (s .args .bytes .now) (d .decode .result) (d .decode .ensures .0) (c .if1 .left)
+    sized (s .args .bytes .now) (d .decode .result) (d .decode .ensures .0) (c .if1 .left)
 
-all-few : (c : tie.After-samples-along2) → c .samples-along2 .result * c .before .samples-along .result ≤ 4096
+all-few : (c : tie.After-samples3) → c .samples3 .result .height .0 * c .samples3 .result .width .0 ≤ 4096
 all-few c =
     let l = c .before .before in
     let d = l .before .before .before .before .before .before in
     let s = d .before .before .before .before .before .before .before in
     let bytes = s .args .bytes .now in
     let e = d .decode .ensures .0 in
-    omega (arith, area bytes (d .decode .result) e (l .if1 .left) (c .before .samples-along .ensures) (c .samples-along2 .ensures), small bytes (d .decode .result) e (l .if1 .left))
+    omega (arith, area bytes (d .decode .result) e (l .if1 .left) (c .samples3 .ensures .0) (c .samples3 .ensures .1), small bytes (d .decode .result) e (l .if1 .left))
 
 array-share-prefix-samples : tie.Need-array-share-prefix-samples
 array-share-prefix-samples c =
-    let d = c .before .before .before .before .before .before .before .before in
-    omega (arith, all-few c, d .decode .kept .1 .1 .1 .1 .0)
+    let a = c .before .before in
+    let d = a .before .before .before .before .before .before .before .before in
+    omega (arith, all-few a, d .decode .kept .1 .1 .1 .1 .0)
 
 write-rows-requires : tie.Need-write-rows-requires
 write-rows-requires c κs =
-    let a = c .before .before in
+    let a = c .before .before .before .before in
     let l = a .before .before in
     let d = l .before .before .before .before .before .before in
     let s = d .before .before .before .before .before .before .before in
@@ -57,16 +58,15 @@ write-rows-requires c κs =
     let r = d .decode .result in
     let e = d .decode .ensures .0 in
     let z = l .if1 .left in
-    let across = a .before .samples-along .ensures in
-    let down = a .samples-along2 .ensures in (
+    let (across, down) = a .samples3 .ensures in (
       rw (front-is bytes r e z across down _ (d .decode .ensures .1 .1 .1 .1)) (samples-row bytes r e z across down),
-      (omega (arith, across, picture l .width .0), omega (arith, all-few a, s .pre)),
+      (omega (arith, across, picture l .wide), omega (arith, all-few a, s .pre)),
     )
 
 returns-2 : tie.Need-returns-2
 returns-2 c =
     let w = c .before .before in
-    let a = w .before .before .before in
+    let a = w .before .before .before .before .before in
     let l = a .before .before in
     let d = l .before .before .before .before .before .before in
     let s = d .before .before .before .before .before .before .before in
@@ -75,8 +75,7 @@ returns-2 c =
     let r = d .decode .result in
     let e = d .decode .ensures .0 in
     let z = l .if1 .left in
-    let across = a .before .samples-along .ensures in
-    let down = a .samples-along2 .ensures in
+    let (across, down) = a .samples3 .ensures in
     let q = w .write-rows .ensures in
     let front = front-is bytes r e z across down _ (d .decode .ensures .1 .1 .1 .1) in
     let t = rows-shown bytes r e z across down in
@@ -86,5 +85,5 @@ pub show-spec : {M : Type 1} → statement M
 show-spec =
     tie.close
     (tie.spec (λ c. search needs) (λ c. search needs) (λ c. search needs) (λ c. search needs) (λ c κs. search needs) (λ c κs. search needs) (λ c. search needs) returns
-    (λ c κs. picture c .width .1) (λ c κs. omega (arith, picture (c .before) .height .1)) (λ c. omega (arith, all-few c)) array-share-prefix-samples
+    (λ c κs. picture (c .before)) (λ c. search needs) (λ c. search needs) (λ c. omega (arith, all-few (c .before .before))) array-share-prefix-samples
     (λ c. sym (length-take-le _ _ (array-share-prefix-samples (c .before)))) write-rows-requires (λ c. search needs) returns-2)

@@ -1,33 +1,41 @@
 -- The columns, the rows and the squares, one after another.
-use mathlib.Core.Path.{_∙_}
-use Rattle.forward_one_filters.proofs.Uses.{filters-parts}
+use Prim.Native.Nat.{_-_, _*_, _+_, _≤_}
+use mathlib.Core.Path.{_≡_}
+use native.Mathlib.Omega.{arith}
+use borrow.Author.Needs.{needs}
+use Rattle.picture.proofs.CheckLaws.{few}
+use Rattle.forward_one_filters.proofs.Undoing.{still-held}
+use Rattle.forward_one_filters.proofs.Edges.{last-row, filters-parts}
 use Rattle.forward_one_filters.proofs.filters.undo_filters.Statement.{statement}
 use Rattle.forward_one_filters.proofs.filters.undo_filters.Tie as tie
 
-module _ (c : tie.After-rest3) where
-  abbrev squares : tie.After-undo-square-filters
-  squares = c .before .before .before
+-- the last square, and how many there are
+last : (s : tie.Start) → let W = s .args .size .width .0 in let H = s .args .size .height .0 in (W * (H - 1) + W ≡ W * H) × (W * H ≤ 216825)
+last s = (last-row (s .args .size .width .0) (s .args .size .height .0) (s .pre .sized .tall), few _ _ (s .pre .sized .most-wide) (s .pre .sized .most-tall))
 
-  abbrev across : tie.After-undo-rows
-  across = c .before .before .before .before .before .before .before .before .before .before
+abbrev start : tie.After-undo-edges → tie.Start
+start d = d .before .before .before .before .before
 
-  abbrev along : tie.After-undo-columns
-  along = c .before .before .before .before .before .before .before .before .before .before .before .before .before .before .before .before .before
+asked : tie.Need-undo-edges-requires
+asked c κs = let s = c .before .before .before .before in let h = last s in (s .pre, (omega (arith, s .pre .sized), omega arith))
+
+asked-2 : tie.Need-undo-edges-requires-2
+asked-2 c κs =
+    let d = c .before .before .before .before in
+    let s = start d in
+    let h = last s in
+    (still-held (s .pre) (d .undo-edges .kept .1 .0) (d .undo-edges .kept .1 .1 .0), (omega (arith, s .pre .sized), omega arith))
 
 returns : tie.Need-returns
 returns c =
-    (filters-parts _ _ _ (along c .undo-columns .ensures .0) (across c .undo-rows .ensures .0) (squares c .undo-square-filters .ensures .0), squares c .undo-square-filters .ensures .1)
-
-same-first : tie.Need-same-length
-same-first c = squares c .undo-square-filters .kept .0 ∙ across c .undo-rows .kept .0 ∙ along c .undo-columns .kept .0
-
-same-low : tie.Need-same-length-2
-same-low c = squares c .undo-square-filters .kept .1 .0 ∙ across c .undo-rows .kept .1 .0 ∙ along c .undo-columns .kept .1 .0
-
-same-rest : tie.Need-same-length-3
-same-rest c = squares c .undo-square-filters .kept .1 .1 .0 ∙ across c .undo-rows .kept .1 .1 .0 ∙ along c .undo-columns .kept .1 .1 .0
+    let d3 = c .before .before in
+    let d2 = d3 .before .before .before .before .before in
+    let d1 = d2 .before .before .before .before .before in
+    let s = start d1 in
+    filters-parts (s .args .size) (s .pre .sized) _ (d1 .undo-edges .ensures) (d2 .undo-edges2 .ensures) (d3 .undo-square-filters .ensures)
 
 pub undo-filters-spec : {M : Type 1} → statement M
 undo-filters-spec =
     tie.close
-    (tie.spec (λ c κs. c .before .before .before .pre) (λ c κs. let e = c .before .before .before .before .before .before in e .undo-columns .ensures .1) (λ c κs. let e = c .before .before .before .before .before .before in e .undo-rows .ensures .1) same-first same-low same-rest returns)
+    (tie.spec (λ c. search needs) (λ c. search needs) (λ c. search needs) (λ c. search needs) asked (λ c. search needs) (λ c. omega (arith, last (start (c .before .before .before .before)))) (λ c. search needs) asked-2
+    (λ c κs. search needs) (λ c. search needs) (λ c. search needs) returns)

@@ -1,34 +1,25 @@
--- From the last use to the first: what is still to be undone of the grid as it is now is what was to be undone at first.
-use Prim.Native.Nat.{_+_, _-_, _*_}
+-- From the last row of windows to the first, as in each row.
+use Prim.Native.Nat.{_-_}
 use native.Mathlib.Omega.{arith}
-use Rattle.lifting.specs.Program.{each}
-use Rattle.picture.specs.Level.{cell, squareFilterAt, squareFilters}
-use Rattle.forward_planes.specs.Held.{squaresAcross, squaresDown}
-use Rattle.forward_one_filters.proofs.Uses.{Undoing, undoing-start, undoing-step, undoing-end, wide, tall}
+use borrow.Author.Needs.{needs}
+use Rattle.picture.specs.Level.{squareFilters}
+use Rattle.forward_one_filters.specs.Windows.{filtersOfRow}
+use Rattle.forward_one_filters.proofs.Undoing.{Undoing, undoing-start, undoing-step, undoing-end}
 use Rattle.forward_one_filters.proofs.filters.undo_square_filters.Statement.{statement}
 use Rattle.forward_one_filters.proofs.filters.undo_square_filters.Tie as tie
 
 abbrev Inv-loop : tie.InvT-loop
-Inv-loop first₀ low₀ rest₀ grid j₀ first low rest j = Undoing grid (λ j. each (squaresAcross grid - 1) (λ i. squareFilterAt (4 * squaresAcross grid) (cell (squaresAcross grid) (4 * j + 2) (4 * i + 2)))) (squaresDown grid - 1) first₀ low₀ rest₀ first low rest j
+Inv-loop size dc₀ low₀ j₀ dc low j =
+    Undoing size (λ j. filtersOfRow size j) (size .height .0 - 1) dc₀ low₀ dc low j
 
 abbrev μ-loop : tie.MeasureT-loop
-μ-loop first₀ low₀ rest₀ grid j₀ first low rest j = j
-
-loop-holds : tie.Need-loop-holds Inv-loop μ-loop
-loop-holds c = let s = c .before in undoing-start (s .pre) (omega (arith, c .down .ensures, tall (s .pre)))
-
-asked : tie.Need-undo-squares-across-requires Inv-loop μ-loop
-asked c κs =
-    let l = c .before .before .before .before in
-    let s = l .before .before in
-    let v = l .loop .inv in
-    (v .room, omega (arith, v .within))
+μ-loop size dc₀ low₀ j₀ dc low j = j
 
 loop-again : tie.Need-loop-again Inv-loop μ-loop
 loop-again c =
-    let d = c .before .before .before in
+    let d = c .before .before in
     let k = d .undo-squares-across .kept in
-    undoing-step (d .before .before .before .before .before .loop .inv) (omega arith) (k .0) (k .1 .0) (k .1 .1 .0) (d .undo-squares-across .ensures)
+    undoing-step (d .before .before .before .before .loop .inv) (omega arith) (k .1 .0) (k .1 .1 .0) (d .undo-squares-across .ensures)
 
 returns : tie.Need-returns Inv-loop μ-loop
 unfolding squareFilters
@@ -37,5 +28,6 @@ returns c = undoing-end (c .before .loop .inv) (omega arith)
 pub undo-square-filters-spec : {M : Type 1} → statement M
 undo-square-filters-spec =
     tie.close
-    (tie.spec Inv-loop μ-loop (λ s κs. s .pre .of-zeros .sized) (λ c. omega (arith, c .down .ensures, tall (let s = c .before in s .pre))) loop-holds (λ c. omega arith) asked (λ c. omega arith) loop-again
-    (λ c. c .before .loop .inv .of-first) (λ c. c .before .loop .inv .of-low) (λ c. c .before .loop .inv .of-rest) returns)
+    (tie.spec Inv-loop μ-loop (λ c. search needs) (λ c. omega arith) (λ c. undoing-start (c .before .pre) (omega arith)) (λ c. omega arith)
+    (λ c κs. let v = c .before .before .before .loop .inv in (v .held, omega (arith, v .within)))
+    (λ c. omega arith) loop-again (λ c. c .before .loop .inv .of-dc) (λ c. c .before .loop .inv .of-low) returns)

@@ -1,50 +1,62 @@
 -- The checks of mode and size come first, then those of the layout.
 use mathlib.Core.Path.{_≡_, sym, ap, _∙_}
 use mathlib.Core.Bool.{Bool}
-use mathlib.Core.List.{[], _∷_}
+use mathlib.Core.List.{[], _∷_, _++_}
+use Prim.Native.Nat.{ℕ}
 use borrow.Author.Needs.{needs}
 use borrow.Author.Tests.{ne-eqb}
-use Rattle.picture.specs.Claims.{Shape}
+use Rattle.picture.specs.declared.size.Size.{Size}
+use Rattle.picture.specs.Sizes.{macroblocks}
 use Rattle.picture.specs.Numbers.{_if_, firstOf, shapeChecks}
-use Rattle.picture.proofs.NumberLaws.{refused-first, passed-first}
+use Rattle.picture.proofs.CheckLaws.{refused-call, ready-number, ready-sized}
 use Rattle.plane_file.specs.Numbers.{layoutChecks, wordChecks}
-use Rattle.picture.proofs.CheckLaws.{shaped}
 use Rattle.plane_file.proofs.Checks.{laid}
 use Rattle.plane_file.proofs.header.check_words.Statement.{statement}
 use Rattle.plane_file.proofs.header.check_words.Tie as tie
 
-shape-first : (c : tie.Else1) → let w = c .before .before .args .w in firstOf (wordChecks w) ≡ firstOf (layoutChecks w)
-shape-first c =
-    let c1 = c .before in
-    let w = c1 .before .args .w in
-    passed-first (shapeChecks (w .mode) (w .width) (w .height)) (layoutChecks w) tt (c1 .check-shape .ensures) (c .if1 .left)
+-- a number by the size that was made of the words is one by the words
+by-words : {k : ℕ} (c : tie.After-check-shape) → let w = c .before .before .args .w in firstOf (shapeChecks (w .mode) (c .before .size .result) ++ layoutChecks w) ≡ k → k ≡ firstOf (wordChecks w)
+by-words c e = let w = c .before .before .args .w in sym e ∙ ap (λ (v : Size). firstOf (shapeChecks (w .mode) v ++ layoutChecks w)) (c .before .size .ensures)
 
-shape : (c : tie.Else1) → let w = c .before .before .args .w in Shape (w .mode) (w .width) (w .height)
-shape c = let c1 = c .before in shaped _ _ _ (sym (c1 .check-shape .ensures) ∙ c .if1 .left)
+-- the checks of mode and size have passed
+passed : {k : ℕ} (c : tie.After-enum-told) → let n = c .before .before in let w = n .before .before .args .w in k ≡ firstOf (layoutChecks w) → k ≡ firstOf (wordChecks w)
+passed c e =
+    let n = c .before .before in
+    let w = n .before .before .args .w in
+    by-words n (sym (ready-number (w .mode) (n .before .size .result) (layoutChecks w) (sym (c .enum-told .given .1) ∙ n .check-shape .ensures) e))
 
 returns : tie.Need-returns
 returns c =
-    let c1 = c .before in
-    let w = c1 .before .args .w in
-    refused-first (shapeChecks (w .mode) (w .width) (w .height)) (layoutChecks w) (c1 .check-shape .ensures) (c .if1 .taken)
+    let k = c .before in
+    let n = k .before .before in
+    let w = n .before .before .args .w in
+    by-words n (sym (refused-call (w .mode) (n .before .size .result) (layoutChecks w) w w (sym (k .shape .given .1) ∙ n .check-shape .ensures) .0))
 
 returns-2 : tie.Need-returns-2
-returns-2 c = sym (shape-first (c .before .before) ∙ simp (ne-eqb _ _ (c .if2 .taken)))
+returns-2 c = passed (c .before .before) (simp (ne-eqb _ _ (c .if1 .taken)))
 
-count-requires : tie.Need-count-requires
-count-requires c κs = let s = shape (c .before .before) in (s .width .1, s .height .1)
+macroblocks-requires : tie.Need-macroblocks-requires
+macroblocks-requires c κs =
+    let k = c .before .before in
+    let n = k .before .before in
+    let w = n .before .before .args .w in
+    ready-sized (w .mode) (n .before .size .result) (layoutChecks w) (sym (k .enum-told .given .1) ∙ n .check-shape .ensures)
 
-laid-out : (c : tie.After-misplaced) → let w = c .before .before .before .before .before .before .args .w in firstOf (wordChecks w) ≡ firstOf ((11 if (c .misplaced .result)) ∷ [])
+-- the checks of the layout, by whether an offset or the total is misplaced
+laid-out : (c : tie.After-misplaced) → let n = c .before .before .before .before .before .before in let w = n .before .before .args .w in
+    firstOf (layoutChecks w) ≡ firstOf ((11 if (c .misplaced .result)) ∷ [])
 laid-out c =
-    let c1 = c .before in
-    let c2 = c1 .before in
-    shape-first (c2 .before .before) ∙ laid (c2 .before .before .before .before .args .w) (c2 .if2 .left) (c1 .count .ensures .0) (c .misplaced .ensures)
+    let m = c .before in
+    let e = m .before in
+    let n = e .before .before .before .before in
+    laid (n .before .before .args .w) (e .if1 .left) (m .macroblocks .ensures .0 ∙ ap macroblocks (n .before .size .ensures)) (c .misplaced .ensures)
 
 returns-3 : tie.Need-returns-3
-returns-3 c = sym (laid-out (c .before) ∙ ap (λ (b : Bool). firstOf ((11 if b) ∷ [])) (c .if3 .taken))
+returns-3 c = passed (c .before .before .before .before .before) (sym (laid-out (c .before) ∙ ap (λ (b : Bool). firstOf ((11 if b) ∷ [])) (c .if2 .taken)))
 
 returns-4 : tie.Need-returns-4
-returns-4 c = sym (laid-out (c .before) ∙ ap (λ (b : Bool). firstOf ((11 if b) ∷ [])) (c .if3 .left))
+returns-4 c = passed (c .before .before .before .before .before) (sym (laid-out (c .before) ∙ ap (λ (b : Bool). firstOf ((11 if b) ∷ [])) (c .if2 .left)))
 
 pub check-words-spec : {M : Type 1} → statement M
-check-words-spec = tie.close (tie.spec (λ c κs. search needs) returns returns-2 count-requires (λ c κs. search needs) returns-3 returns-4)
+check-words-spec =
+    tie.close (tie.spec (λ c κs. search needs) (λ c κs. search needs) (λ c. search needs) returns (λ c. search needs) returns-2 macroblocks-requires (λ c κs. search needs) returns-3 returns-4)

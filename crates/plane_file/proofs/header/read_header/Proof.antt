@@ -1,54 +1,58 @@
 -- The checks of the words come first, and then the one of the bytes' number.
-use mathlib.Core.Path.{_≡_, _∙_}
+use mathlib.Core.Path.{_≡_, sym, ap, _∙_}
 use native.Mathlib.Omega.{arith}
 use mathlib.Core.List.{[]}
 use lib.ListN.{length}
 use borrow.Author.Needs.{needs}
+use Rattle.plane_file.specs.Layout.{total}
 use Rattle.plane_file.specs.Numbers.{startChecks, totalCheck, countIn, headerNumber}
-use Rattle.plane_file.proofs.Checks.{still-refused, next-refused, next-done, read-shape, read-count, total-off, total-on}
+use Rattle.plane_file.proofs.Checks.{still-refused, next-refused, next-done, read-sized, read-count, total-off, total-on}
 use Rattle.plane_file.proofs.header.read_header.Statement.{statement}
 use Rattle.plane_file.proofs.header.read_header.Tie as tie
 
 returns : tie.Need-returns
 unfolding headerNumber
 returns c =
-    let c2 = c .before .before in
-    let bytes = c2 .before .before .args .bytes .now in
-    still-refused bytes (startChecks bytes) _ (c2 .read-start .ensures) (totalCheck (countIn bytes) (length bytes)) (c .if1 .taken)
+    let r = c .before .before in
+    let bytes = r .before .before .args .bytes .now in
+    still-refused bytes (startChecks bytes) _ (r .read-start .ensures) (totalCheck (countIn bytes) (length bytes)) (c .if1 .taken)
 
-count-requires : tie.Need-count-requires
-count-requires c κs =
-    let c2 = c .before .before in
-    let s = read-shape (c2 .before .before .args .bytes .now) [] _ tt (c2 .read-start .ensures) (c .if1 .left) in
-    (s .width .1, s .height .1)
+macroblocks-requires : tie.Need-macroblocks-requires
+macroblocks-requires c κs =
+    let e = c .before in
+    let r = e .before .before in
+    read-sized (r .before .before .args .bytes .now) [] _ (r .read-start .ensures) (e .if1 .left)
 
-counted : (c : tie.After-count) → c .count .result ≡ countIn (c .before .before .before .before .before .args .bytes .now)
-counted c =
-    let c1 = c .before in
-    let c3 = c1 .before .before in
-    let bytes = c3 .before .before .args .bytes .now in
-    c .count .ensures .0 ∙ read-count bytes (startChecks bytes) _ (c3 .read-start .ensures) (c1 .if1 .left)
+-- the length that the bytes are held to
+want : (c : tie.After-total-bytes) → let bytes = c .before .before .before .before .before .before .before .args .bytes .now in c .total-bytes .result ≡ total (countIn bytes)
+want c =
+    let m = c .before in
+    let e = m .before .before in
+    let r = e .before .before in
+    let bytes = r .before .before .args .bytes .now in
+    c .total-bytes .ensures ∙ ap total (m .macroblocks .ensures .0 ∙ read-count bytes (startChecks bytes) _ (r .read-start .ensures) (e .if1 .left))
 
 returns-2 : tie.Need-returns-2
 unfolding headerNumber
 returns-2 c =
-    let c2 = c .before .before in
-    let c3 = c2 .before in
-    let c5 = c3 .before .before in
-    let bytes = c5 .before .before .args .bytes .now in
-    c .header-of .ensures
-    ∙ next-refused bytes (startChecks bytes) _ (c5 .read-start .ensures) (totalCheck (countIn bytes) (length bytes)) tt (c3 .if1 .left) (total-off _ _ _ (counted c2) (c .before .if2 .taken)) (λ e. omega (arith, e))
+    let f = c .before in
+    let t = f .before in
+    let e = t .before .before .before in
+    let r = e .before .before in
+    let bytes = r .before .before .args .bytes .now in
+    c .refused .ensures
+    ∙ next-refused bytes (startChecks bytes) _ (r .read-start .ensures) (totalCheck (countIn bytes) (length bytes)) (e .if1 .left) (total-off _ _ _ (want t) (f .if2 .taken)) (λ z. omega (arith, z))
 
 returns-3 : tie.Need-returns-3
 unfolding headerNumber
 returns-3 c =
-    let c1 = c .before in
-    let c2 = c1 .before in
-    let c4 = c2 .before .before in
-    let bytes = c4 .before .before .args .bytes .now in
-    next-done bytes (startChecks bytes) _ (c4 .read-start .ensures) (totalCheck (countIn bytes) (length bytes)) tt (c2 .if1 .left) (total-on _ _ _ (counted c1) (c .if2 .left))
+    let t = c .before in
+    let e = t .before .before .before in
+    let r = e .before .before in
+    let bytes = r .before .before .args .bytes .now in
+    next-done bytes (startChecks bytes) _ (r .read-start .ensures) (totalCheck (countIn bytes) (length bytes)) (e .if1 .left) (total-on _ _ _ (want t) (c .if2 .left))
 
 pub read-header-spec : {M : Type 1} → statement M
 read-header-spec =
     tie.close
-    (tie.spec (λ c κs. search needs) returns count-requires (λ c. search needs) (λ c. search needs) (λ c. search needs) (λ c κs. search needs) returns-2 returns-3)
+    (tie.spec (λ c κs. search needs) returns macroblocks-requires (λ c κs. search needs) (λ c. search needs) (λ c κs. search needs) returns-2 returns-3)

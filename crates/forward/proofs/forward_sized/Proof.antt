@@ -1,0 +1,68 @@
+-- The check of the samples, and then those of the planes; and where all pass, both levels.
+use Prim.Native.Nat.{ℕ, _*_}
+use mathlib.Core.Path.{_≡_, sym, _∙_, ap}
+use mathlib.Core.List.{_++_}
+use borrow.Author.Needs.{needs}
+use borrow.Author.Tests.{eq-eqb, ne-eqb}
+use lib.ListN.{length}
+use Rattle.picture.specs.Sizes.{macroblocks}
+use Rattle.picture.specs.Planes.{Planes, planes}
+use Rattle.picture.specs.Numbers.{firstOf, sampleCheck, planeChecks}
+use Rattle.picture.specs.Transform.{forwardBy}
+use Rattle.picture.proofs.NumberLaws.{settled-refused}
+use Rattle.picture.proofs.CheckLaws.{counted, planes-fit}
+use Rattle.forward.proofs.forward_sized.Statement.{statement}
+use Rattle.forward.proofs.forward_sized.Tie as tie
+
+abbrev was : tie.Start → Planes
+was s = planes (s .args .dc .now) (s .args .low .now) (s .args .high .now)
+
+abbrev n : tie.Start → ℕ
+n s = macroblocks (s .args .size)
+
+-- the samples are as long as their check asks
+long : (c : tie.Else1) → let s = c .before .before .before in length (s .args .samples .now) ≡ 256 * n s
+long c = c .if1 .left ∙ ap (λ (k : ℕ). 256 * k) (c .before .before .macroblocks .ensures .0)
+
+-- the number of the planes' checks, and so of all
+number : (c : tie.After-check-planes) → let e = c .before .before .before .before in let s = e .before .before .before in
+    c .check-planes .result ≡ firstOf (planeChecks (n s) (was s))
+number c =
+    let e = c .before .before .before .before in
+    let s = e .before .before .before in
+    counted (λ (k : ℕ). planeChecks k (was s)) (c .check-planes .ensures) (e .before .before .macroblocks .ensures .0)
+
+all : (c : tie.After-check-planes) → let e = c .before .before .before .before in let s = e .before .before .before in
+    c .check-planes .result ≡ firstOf (sampleCheck (n s) (s .args .samples .now) ++ planeChecks (n s) (was s))
+all c = let e = c .before .before .before .before in number c ∙ sym (simp (eq-eqb _ _ (long e)))
+
+returns : tie.Need-returns
+returns c =
+    let m = c .before .before in
+    let s = m .before in (
+      simp (ne-eqb (length (s .args .samples .now)) (256 * n s) (λ h. c .if1 .taken (h ∙ sym (ap (λ (k : ℕ). 256 * k) (m .macroblocks .ensures .0))))),
+      sym (settled-refused 7 (forwardBy (s .args .mode) (s .args .size) (s .args .samples .now)) (was s) (λ e. search needs)),
+    )
+
+returns-2 : tie.Need-returns-2
+returns-2 c = let p = c .before in (all p, sym (settled-refused _ _ _ (c .if2 .taken)))
+
+asked : tie.Need-forward-planes-requires
+asked c κs =
+    let f = c .before .before .before in
+    let p = f .before in
+    let e = p .before .before .before .before in
+    let s = e .before .before .before in
+    (s .pre, (long e, planes-fit (n s) (was s) (sym (number p) ∙ f .if2 .left)))
+
+returns-3 : tie.Need-returns-3
+returns-3 c =
+    let d = c .before .before .before in
+    let f = d .before .before .before .before in
+    (sym (f .if2 .left) ∙ all (f .before), d .forward-planes .ensures)
+
+pub forward-sized-spec : {M : Type 1} → statement M
+forward-sized-spec =
+    tie.close
+    (tie.spec (λ c κs. search needs) (λ c. search needs) (λ c. search needs) returns (λ c κs. search needs) (λ c. search needs) (λ c. search needs) (λ c. search needs) returns-2
+    asked (λ c. search needs) (λ c. search needs) (λ c. search needs) returns-3)

@@ -1,3 +1,0 @@
-pub mod Stores
-pub mod Macroblocks
-pub mod Whole

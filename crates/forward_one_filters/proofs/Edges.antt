@@ -1,0 +1,78 @@
+-- A line of uses along a row, or down a column, is the level's filters of that row or column; and the filters one stage after another.
+use Prim.Native.Nat.{ℕ, zero, suc, _+_, _-_, _*_, _≤_, _<_}
+use mathlib.Core.Path.{_≡_, refl, ap}
+use mathlib.Core.List.{List}
+use native.Mathlib.Omega.{arith}
+use native.Mathlib.Nat.{mul-le-mul-right}
+use lib.IntN.{ℤ}
+use Rattle.lifting.specs.Program.{Program, end, apply, FourFilter, undo, each, _then_}
+use Rattle.lifting.proofs.Compose.{undo-then}
+use Rattle.figures.specs.Figures.{fourFilter}
+use Rattle.picture.specs.declared.size.Size.{Size}
+use Rattle.picture.specs.Level.{fourFilterAt, squareFilters, rowFilters, columnFilters, filters}
+use Rattle.picture.specs.Sizes.{Sized}
+use Rattle.forward_one_grid.proofs.Lines.{row-line, column-line}
+use Rattle.forward_one_filters.specs.Edges.{filterAcross, line, edges}
+
+pub each-same : (n : ℕ) (f g : ℕ → Program) → ((i : ℕ) → i < n → f i ≡ g i) → each n f ≡ each n g
+unfolding each
+each-same zero f g h = refl
+each-same (suc n) f g h = rw (each-same n f g (λ i l. h i (omega arith)), h n (omega arith))
+
+-- the squares of a line lie in the picture
+pub along : (pace i n : ℕ) → i < n → pace * i + pace ≤ pace * n
+along pace i n h = omega (arith, mul-le-mul-right {m = i + 1} {n = n} pace (omega arith))
+
+four-same : {a b c d a' b' c' d' : Program} → a ≡ a' → b ≡ b' → c ≡ c' → d ≡ d' → (a then b then c then d) ≡ (a' then b' then c' then d')
+four-same e f g h = rw (e, f, g, h)
+
+-- the last square of a column, and of a picture
+pub last-row : (W H : ℕ) → 0 < H → W * (H - 1) + W ≡ W * H
+last-row W H h = omega (arith, ap (λ (k : ℕ). W * k) one-more)
+  where
+    one-more : H - 1 + 1 ≡ H
+    one-more = omega arith
+
+-- four lines, one after another
+pub edges-parts : (size : Size) (last pace side step n : ℕ) (v : List ℤ) {v1 v2 v3 v4 : List ℤ} → v1 ≡ undo (line size last pace (3 * side) step n) v → v2 ≡ undo (line size last pace (2 * side) step n) v1
+    → v3 ≡ undo (line size 0 pace side step n) v2 → v4 ≡ undo (line size 0 pace 0 step n) v3 → v4 ≡ undo (edges size last pace side step n) v
+unfolding edges
+edges-parts size last pace side step n v e f g h = rw (h, g, f, e) (simp undo-then)
+
+module _ (size : Size) (sized : Sized size) where
+  abbrev W : ℕ
+  W = size .width .0
+
+  abbrev H : ℕ
+  H = size .height .0
+
+  row-is : (from l j r row : ℕ) → from ≡ j * W → l ≡ 4 * r → row ≡ 4 * j + r → line size from 1 l 1 (W - 1) ≡ rowFilters W row
+  unfolding line filterAcross rowFilters fourFilterAt
+  row-is from l j r row e f g =
+      rw (f, g) (each-same (W - 1) _ _ (λ i h. ap (λ ps. apply FourFilter fourFilter ps end) (row-line size (from + 1 * i) (from + 1 * i + 1) j i r (omega arith) refl (omega arith))))
+
+  column-is : (from l i c column : ℕ) → from ≡ i → i < W → l ≡ c → c < 4 → column ≡ 4 * i + c → line size from W l 4 (H - 1) ≡ columnFilters W H column
+  unfolding line filterAcross columnFilters fourFilterAt
+  column-is from l i c column e k f m g =
+      rw (f, g) (each-same (H - 1) _ _ (λ j h. ap (λ ps. apply FourFilter fourFilter ps end) (column-line size (from + W * j) (from + W * j + W) j i c m (omega arith) refl k)))
+
+  rows-are : edges size ((H - 1) * W) 1 4 1 (W - 1) ≡ rowFilters W 0 then rowFilters W 1 then rowFilters W (4 * H - 2) then rowFilters W (4 * H - 1)
+  unfolding edges
+  rows-are =
+      let h = sized .tall in
+      four-same (row-is 0 0 0 0 0 (omega arith) refl refl) (row-is 0 4 0 1 1 (omega arith) refl refl)
+      (row-is ((H - 1) * W) (2 * 4) (H - 1) 2 (4 * H - 2) refl refl (omega arith)) (row-is ((H - 1) * W) (3 * 4) (H - 1) 3 (4 * H - 1) refl refl (omega arith))
+
+  columns-are : edges size (W - 1) W 1 4 (H - 1) ≡ columnFilters W H 0 then columnFilters W H 1 then columnFilters W H (4 * W - 2) then columnFilters W H (4 * W - 1)
+  unfolding edges
+  columns-are =
+      let h = sized .wide in
+      four-same (column-is 0 0 0 0 0 refl h refl (omega arith) refl) (column-is 0 1 0 1 1 refl h refl (omega arith) refl)
+      (column-is (W - 1) (2 * 1) (W - 1) 2 (4 * W - 2) refl (omega arith) refl (omega arith) (omega arith))
+      (column-is (W - 1) (3 * 1) (W - 1) 3 (4 * W - 1) refl (omega arith) refl (omega arith) (omega arith))
+
+  -- the filters, one stage after another
+  pub filters-parts : (v : List ℤ) {v1 v2 v3 : List ℤ} → v1 ≡ undo (edges size (W - 1) W 1 4 (H - 1)) v → v2 ≡ undo (edges size ((H - 1) * W) 1 4 1 (W - 1)) v1
+      → v3 ≡ undo (squareFilters W H) v2 → v3 ≡ undo (filters W H) v
+  unfolding filters
+  filters-parts v e f g = rw (g, f, e, rows-are, columns-are) (simp undo-then)

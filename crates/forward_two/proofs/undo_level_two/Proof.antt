@@ -1,0 +1,24 @@
+-- The filters and then the cores, or the cores alone.
+use Rattle.forward_two.proofs.Levels.{level-filtered, level-plain}
+use borrow.Author.Needs.{needs}
+use Rattle.forward_two.proofs.undo_level_two.Statement.{statement}
+use Rattle.forward_two.proofs.undo_level_two.Tie as tie
+
+returns : tie.Need-returns
+returns c =
+    let d = c .before .before .before in
+    let t = d .before .before .before .before in
+    let a = t .before .args in
+    level-filtered (a .filtered) (a .size) (a .samples .now) (t .if1 .taken) (d .undo-filtered .ensures)
+
+returns-2 : tie.Need-returns-2
+returns-2 c =
+    let d = c .before .before .before in
+    let t = d .before .before .before .before in
+    let a = t .before .args in
+    level-plain (a .filtered) _ _ (a .samples .now) (t .if1 .left) (d .undo-cores .ensures)
+
+pub undo-level-two-spec : {M : Type 1} → statement M
+undo-level-two-spec =
+    tie.close
+    (tie.spec (λ c κs. search needs) (λ c. search needs) (λ c. search needs) (λ c. search needs) returns (λ c κs. search needs) (λ c. search needs) (λ c. search needs) (λ c. search needs) returns-2)

@@ -1,0 +1,307 @@
+// Level two of the forward call: the samples with its filters and cores undone, in the three planes.
+// Where the mode has filters, a strip of 18 rows and 72 columns goes over the picture, four macroblocks at a time: the windows go from the samples into it,
+// and the cores from it to the planes. Two of its rows are left over for the macroblocks below and parked in their cells, two columns for those on the right.
+ghost use mathlib.Core.Path.{_≡_};
+ghost use Prim.Native.Nat.{ℕ, _+_, _*_, _/_, _%_, _<_, _≤_};
+ghost use mathlib.Core.Logic.{_⊎_};
+ghost use lib.ListN.{length};
+ghost use Rattle.lifting.specs.Program.{undo, at as number};
+ghost use Rattle.picture.specs.Level.{level, cores as coresOf};
+ghost use Rattle.picture.specs.Planes.{firstGrid, secondGrid};
+ghost use Rattle.picture.specs.Sizes.{macroblocks, Sized};
+ghost use Rattle.forward_two_cores.specs.Blocks.{blockOf, undoneIn, Among, Replaced};
+ghost use Rattle.forward_two_edges.specs.Unfiltered.{unfiltered};
+ghost use Rattle.forward_two_edges.specs.Strip.{Holds, Kept, Given, Rows};
+ghost use Rattle.forward_two.specs.Strips.{Carried, Through, Planes, Lowered};
+use forward_two_cores::undo_cores;
+use forward_two_cores::undo_macroblock;
+use forward_two_edges::edge_columns;
+use forward_two_edges::edge_rows;
+use forward_two_parked::fetch;
+use forward_two_parked::park;
+use forward_two_windows::windows;
+use picture::size::Size;
+
+// The two columns after the last macroblock of the group before become the first two.
+fn carry(strip: &mut [i32])
+    requires { ⌜ length (now strip) ≡ 1296 ⌝ }
+    ensures { λ u. ⌜ ((y x : ℕ) → y < 18 → x < 2 → number (now (strip .exit)) (72 * y + x) ≡ number (now (strip .entry)) (72 * y + 64 + x)) ⌝ }
+    ensures { λ u. ⌜ Kept 0 18 0 2 (now (strip .entry)) (now (strip .exit)) ⌝ }
+{
+    for y in 0..18 {
+        strip[72 * y] = strip[72 * y + 64];
+        strip[72 * y + 1] = strip[72 * y + 65];
+    }
+}
+
+// Columns 0 and 1.
+fn left(
+    size: Size,
+    r: usize,
+    c: usize,
+    samples: &[i32],
+    first: usize,
+    down: usize,
+    strip: &mut [i32],
+)
+    requires { ⌜ Given size r c (now samples) (now strip) ⌝ }
+    requires { ⌜ Rows size r first down ⌝ }
+    requires { ⌜ (0 < c → Carried size (now samples) r c first (now strip)) ⌝ }
+    ensures { λ u. ⌜ Holds size (now (samples .entry)) r c first 18 0 2 (now (strip .exit)) ⌝ }
+    ensures { λ u. ⌜ length (now (strip .exit)) ≡ 1296 ⌝ }
+{
+    if c == 0 {
+        edge_columns(size, r, c, samples, first, down, strip, 0);
+        return;
+    }
+    carry(strip);
+}
+
+// The columns of n windows.
+fn middle(
+    size: Size,
+    r: usize,
+    c: usize,
+    samples: &[i32],
+    first: usize,
+    down: usize,
+    n: usize,
+    strip: &mut [i32],
+)
+    requires { ⌜ Given size r c (now samples) (now strip) ⌝ }
+    requires { ⌜ Rows size r first down ⌝ }
+    requires { ⌜ (n ≤ 16) × (4 * c + n < 4 * size .width .0) ⌝ }
+    ensures { λ u. ⌜ Holds size (now (samples .entry)) r c first 18 2 (4 * n + 2) (now (strip .exit)) ⌝ }
+    ensures { λ u. ⌜ Kept first 18 2 72 (now (strip .entry)) (now (strip .exit)) ⌝ }
+{
+    edge_rows(size, r, c, samples, first, 2, n, strip);
+    windows(size, r, c, samples, down, n, strip);
+    edge_rows(size, r, c, samples, 4 * down + 2, 16, n, strip);
+}
+
+// All columns of n macroblocks and the two after them, from row `first` on.
+fn fill(
+    size: Size,
+    r: usize,
+    c: usize,
+    n: usize,
+    samples: &[i32],
+    first: usize,
+    down: usize,
+    strip: &mut [i32],
+)
+    requires { ⌜ Given size r c (now samples) (now strip) ⌝ }
+    requires { ⌜ Rows size r first down ⌝ }
+    requires { ⌜ (0 < c → Carried size (now samples) r c first (now strip)) ⌝ }
+    requires { ⌜ (0 < n) × (n ≤ 4) × (c + n ≤ size .width .0) ⌝ }
+    ensures { λ u. ⌜ Holds size (now (samples .entry)) r c first 18 0 (16 * n + 2) (now (strip .exit)) ⌝ }
+    ensures { λ u. ⌜ length (now (strip .exit)) ≡ 1296 ⌝ }
+{
+    left(size, r, c, samples, first, down, strip);
+    let across = size.width.0;
+    if c + n == across as usize {
+        middle(size, r, c, samples, first, down, 4 * n - 1, strip);
+        edge_columns(size, r, c, samples, first, down, strip, 16 * n - 2);
+        return;
+    }
+    middle(size, r, c, samples, first, down, 4 * n, strip);
+}
+
+// The cores of the strip's n macroblocks, of which the first is macroblock m.
+fn cores(strip: &[i32], dc: &mut [i32], low: &mut [i32], high: &mut [i32], m: usize, n: usize)
+    requires { ⌜ (length (now strip) ≡ 1296) × (n ≤ 4) ⌝ }
+    requires { ⌜ (m + n ≤ length (now dc)) × (15 * (m + n) ≤ length (now low)) × (240 * (m + n) ≤ length (now high)) ⌝ }
+    ensures { λ u. ⌜ ((t b : ℕ) → b < n → t / 16 ≡ m + b → blockOf (now (dc .exit)) (now (low .exit)) (now (high .exit)) t ≡ undoneIn 72 (16 * b) (now (strip .entry)) (t % 16)) ⌝ }
+    ensures { λ u. ⌜ ((t : ℕ) → (Among m (m + n) t → ⊥) → blockOf (now (dc .exit)) (now (low .exit)) (now (high .exit)) t ≡ blockOf (now (dc .entry)) (now (low .entry)) (now (high .entry)) t) ⌝ }
+{
+    for b in 0..n {
+        undo_macroblock(strip, 72, 16 * b, dc, low, high, m + b);
+    }
+}
+
+// Rows 0 and 1 of the strip, where a row of macroblocks above has parked them.
+fn upper(
+    size: Size,
+    r: usize,
+    c: usize,
+    n: usize,
+    samples: &[i32],
+    dc: &[i32],
+    low: &[i32],
+    high: &[i32],
+    first: usize,
+    strip: &mut [i32],
+)
+    requires { ⌜ Given size r c (now samples) (now strip) ⌝ }
+    requires { ⌜ Planes size (now dc) (now low) (now high) ⌝ }
+    requires { ⌜ (0 < n) × (n ≤ 4) × (c + n ≤ size .width .0) ⌝ }
+    requires { ⌜ ((first ≡ 0) × (r ≡ 0)) ⊎ ((first ≡ 2) × (0 < r)) ⌝ }
+    requires { ⌜ Holds size (now samples) r c first 18 0 (16 * n + 2) (now strip) ⌝ }
+    requires { ⌜ Through size (now samples) (r * size .width .0 + c) (blockOf (now dc) (now low) (now high)) ⌝ }
+    ensures { λ u. ⌜ Holds size (now (samples .entry)) r c 0 18 0 (16 * n) (now (strip .exit)) ⌝ }
+    ensures { λ u. ⌜ Holds size (now (samples .entry)) r c first 18 0 (16 * n + 2) (now (strip .exit)) ⌝ }
+    ensures { λ u. ⌜ length (now (strip .exit)) ≡ 1296 ⌝ }
+{
+    if first == 0 {
+        return;
+    }
+    let across = size.width.0;
+    fetch(dc, low, high, r * (across as usize) + c, n, strip);
+}
+
+// Rows 16 and 17 of the strip, where there is a row of macroblocks below.
+fn lower(
+    size: Size,
+    r: usize,
+    c: usize,
+    n: usize,
+    dc: &mut [i32],
+    low: &mut [i32],
+    high: &mut [i32],
+    down: usize,
+    strip: &[i32],
+)
+    requires { ⌜ Sized size × (r < size .height .0) ⌝ }
+    requires { ⌜ (length (now strip) ≡ 1296) × (n ≤ 4) × (c + n ≤ size .width .0) ⌝ }
+    requires { ⌜ Planes size (now dc) (now low) (now high) ⌝ }
+    requires { ⌜ ((down ≡ 3) × (r + 1 ≡ size .height .0)) ⊎ ((down ≡ 4) × (r + 1 < size .height .0)) ⌝ }
+    ensures { λ u. ⌜ Lowered size (r * size .width .0 + c + size .width .0) n (now (strip .entry)) (blockOf (now (dc .entry)) (now (low .entry)) (now (high .entry))) (blockOf (now (dc .exit)) (now (low .exit)) (now (high .exit))) ⌝ }
+{
+    if down == 3 {
+        return;
+    }
+    let across = size.width.0;
+    let width = across as usize;
+    park(dc, low, high, r * width + c + width, n, strip);
+}
+
+// n macroblocks of row r, from macroblock c of the row on.
+fn group(
+    size: Size,
+    r: usize,
+    c: usize,
+    n: usize,
+    samples: &[i32],
+    dc: &mut [i32],
+    low: &mut [i32],
+    high: &mut [i32],
+    first: usize,
+    down: usize,
+    strip: &mut [i32],
+)
+    requires { ⌜ Given size r c (now samples) (now strip) ⌝ }
+    requires { ⌜ Planes size (now dc) (now low) (now high) ⌝ }
+    requires { ⌜ Rows size r first down ⌝ }
+    requires { ⌜ (0 < n) × (n ≤ 4) × (c + n ≤ size .width .0) ⌝ }
+    requires { ⌜ (0 < c → Carried size (now samples) r c first (now strip)) ⌝ }
+    requires { ⌜ Through size (now samples) (r * size .width .0 + c) (blockOf (now dc) (now low) (now high)) ⌝ }
+    ensures { λ u. ⌜ Through size (now (samples .entry)) (r * size .width .0 + c + n) (blockOf (now (dc .exit)) (now (low .exit)) (now (high .exit))) ⌝ }
+    ensures { λ u. ⌜ (n ≡ 4 → c + n < size .width .0 → Carried size (now (samples .entry)) r (c + n) first (now (strip .exit))) ⌝ }
+    ensures { λ u. ⌜ length (now (strip .exit)) ≡ 1296 ⌝ }
+{
+    fill(size, r, c, n, samples, first, down, strip);
+    upper(size, r, c, n, samples, dc, low, high, first, strip);
+    let across = size.width.0;
+    cores(strip, dc, low, high, r * (across as usize) + c, n);
+    lower(size, r, c, n, dc, low, high, down, strip);
+}
+
+// How many of those that are left go together.
+fn together(left: usize) -> usize
+    ensures { λ r. ⌜ (r ≤ left) × (r ≤ 4) ⌝ }
+    ensures { λ r. ⌜ (0 < left → 0 < r) ⌝ }
+    ensures { λ r. ⌜ (r < left → r ≡ 4) ⌝ }
+{
+    if left > 4 {
+        return 4;
+    }
+    left
+}
+
+// Row r of macroblocks.
+fn undo_row(
+    size: Size,
+    r: usize,
+    samples: &[i32],
+    dc: &mut [i32],
+    low: &mut [i32],
+    high: &mut [i32],
+    first: usize,
+    down: usize,
+    strip: &mut [i32],
+)
+    requires { ⌜ Given size r 0 (now samples) (now strip) ⌝ }
+    requires { ⌜ Planes size (now dc) (now low) (now high) ⌝ }
+    requires { ⌜ Rows size r first down ⌝ }
+    requires { ⌜ Through size (now samples) (r * size .width .0) (blockOf (now dc) (now low) (now high)) ⌝ }
+    ensures { λ u. ⌜ Through size (now (samples .entry)) (r * size .width .0 + size .width .0) (blockOf (now (dc .exit)) (now (low .exit)) (now (high .exit))) ⌝ }
+    ensures { λ u. ⌜ length (now (strip .exit)) ≡ 1296 ⌝ }
+{
+    let across = size.width.0;
+    let width = across as usize;
+    let mut c = 0;
+    while c < width {
+        let n = together(width - c);
+        group(size, r, c, n, samples, dc, low, high, first, down, strip);
+        c += n;
+    }
+}
+
+// The first row of the strip that no row of macroblocks above has made.
+fn first_row(r: usize) -> usize
+    ensures { λ y. ⌜ ((y ≡ 0) × (r ≡ 0)) ⊎ ((y ≡ 2) × (0 < r)) ⌝ }
+{
+    if r == 0 {
+        return 0;
+    }
+    2
+}
+
+// The windows down in row r of macroblocks.
+fn windows_down(r: usize, height: usize) -> usize
+    requires { ⌜ r < height ⌝ }
+    ensures { λ n. ⌜ ((n ≡ 3) × (r + 1 ≡ height)) ⊎ ((n ≡ 4) × (r + 1 < height)) ⌝ }
+{
+    if r + 1 == height {
+        return 3;
+    }
+    4
+}
+
+// A level with filters: the strip goes over the picture.
+fn undo_filtered(size: Size, samples: &[i32], dc: &mut [i32], low: &mut [i32], high: &mut [i32])
+    requires { ⌜ Sized size × (length (now samples) ≡ 256 * macroblocks size) ⌝ }
+    requires { ⌜ Planes size (now dc) (now low) (now high) ⌝ }
+    ensures { λ u. ⌜ secondGrid (size .width .0) (size .height .0) (firstGrid (size .width .0) (size .height .0) (now (dc .exit)) (now (low .exit))) (now (high .exit)) ≡ undo (coresOf (4 * size .width .0) (4 * size .height .0)) (unfiltered size (now (samples .entry))) ⌝ }
+{
+    let down = size.height.0;
+    let height = down as usize;
+    let mut strip = [0i32; 1296];
+    for r in 0..height {
+        let first = first_row(r);
+        let rows = windows_down(r, height);
+        undo_row(size, r, samples, dc, low, high, first, rows, &mut strip);
+    }
+}
+
+// Level two undone, its filters, where the mode has them, and its cores.
+pub fn undo_level_two(
+    filtered: bool,
+    size: Size,
+    samples: &[i32],
+    dc: &mut [i32],
+    low: &mut [i32],
+    high: &mut [i32],
+)
+    requires { ⌜ Sized size ⌝ }
+    requires { ⌜ length (now samples) ≡ 256 * macroblocks size ⌝ }
+    requires { ⌜ (length (now dc) ≡ macroblocks size) × (length (now low) ≡ 15 * macroblocks size) × (length (now high) ≡ 240 * macroblocks size) ⌝ }
+    ensures { λ u. ⌜ secondGrid (size .width .0) (size .height .0) (firstGrid (size .width .0) (size .height .0) (now (dc .exit)) (now (low .exit))) (now (high .exit)) ≡
+        undo (level filtered (4 * size .width .0) (4 * size .height .0)) (now (samples .entry)) ⌝ }
+{
+    if filtered {
+        undo_filtered(size, samples, dc, low, high);
+        return;
+    }
+    undo_cores(size, samples, dc, low, high);
+}

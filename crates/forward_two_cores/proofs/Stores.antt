@@ -1,0 +1,125 @@
+-- Blocks stored and replaced one after another: each store adds to what is done and leaves the rest.
+use Prim.Native.Nat.{ℕ, zero, suc, _+_, _*_, _/_, _%_, _<_, _≤_}
+use mathlib.Core.Path.{_≡_, refl, sym, _∙_, ap, ap₂, subst}
+use mathlib.Core.Logic.{by-cases}
+use mathlib.Core.List.{List}
+use native.Mathlib.Omega.{arith}
+use native.Mathlib.Decide.{decLt}
+use native.Mathlib.Numerals.{add-one}
+use native.Mathlib.Nat.{add-mul, mul-le-mul-right}
+use lib.Arith.{digits-div, digits-mod}
+use lib.ListN.{length, set}
+use lib.Seq.{getD-set-same, getD-set-other}
+use lib.IntN.{ℤ, pos}
+use Rattle.lifting.specs.Program.{at, get, put, undo}
+use Rattle.figures.specs.Block.{four}
+use Rattle.figures.specs.Figures.{core}
+use Rattle.picture.specs.Level.{strip, square}
+use Rattle.picture.specs.Planes.{table, coefficients, blockAt}
+use Rattle.picture.proofs.Table.{table-is, table-same}
+use Rattle.forward_kernel.specs.Placed.{Placed, undoneAt}
+use Rattle.forward_kernel.proofs.Stores.{placed-after, four-placed}
+use Rattle.forward_two_cores.specs.Blocks.{zerosOf, blockOf, squareIn, undoneIn, Among, Replaced}
+
+-- ---- blocks
+
+-- two blocks whose numbers are the same
+pub same-block : {x y : ℤ} (f g : ℕ → ℤ) → x ≡ y → ((k : ℕ) → k < 15 → f k ≡ g k) → table 16 (coefficients x f) ≡ table 16 (coefficients y g)
+same-block {x} {y} f g e h = table-same 16 (coefficients x f) (coefficients y g) entry
+  where
+    entry : (k : ℕ) → k < 16 → coefficients x f k ≡ coefficients y g k
+    entry zero l = e
+    entry (suc k) l = h k (omega arith)
+
+pub block-is : {x : ℤ} (f : ℕ → ℤ) (xs : List ℤ) → length xs ≡ 16 → x ≡ at xs 0 → ((k : ℕ) → k < 15 → f k ≡ at xs (k + 1)) → table 16 (coefficients x f) ≡ xs
+block-is {x} f xs n e h = table-is 16 (coefficients x f) xs n entry
+  where
+    entry : (k : ℕ) → k < 16 → coefficients x f k ≡ at xs k
+    entry zero l = e
+    entry (suc k) l = h k (omega arith) ∙ ap (at xs) (add-one k)
+
+-- a block is stored
+pub block-stored : (t : ℕ) (xs zeros : List ℤ) {rest zeros' rest' : List ℤ} → t < length zeros → length xs ≡ 16
+    → zeros' ≡ set zeros t (at xs 0) → Placed (15 * t) 15 (λ k. at xs (k + 1)) rest rest' → Replaced (λ s. s ≡ t) (λ s. xs) (zerosOf zeros rest) (zerosOf zeros' rest')
+unfolding zerosOf
+block-stored t xs zeros {rest} {zeros'} {rest'} room n e p = record {
+  own = λ s y. block-is _ xs n (ap (at zeros') y ∙ ap (λ v. at v t) e ∙ getD-set-same zeros t (at xs 0) (pos 0) room) (λ k h. ap (λ (r : ℕ). at rest' (15 * r + k)) y ∙ p .own k h);
+  others = λ s o. same-block _ _ (ap (λ v. at v s) e ∙ getD-set-other zeros t s (at xs 0) (pos 0) o) (λ k h. by-cases (decLt s t) (λ l. p .below (15 * s + k) (omega arith)) (λ l. p .above (15 * s + k) (omega (arith, l, o))));
+}
+
+module _ {P : ℕ → Type 0} {old new : ℕ → List ℤ} where
+  pub replaced-as : {f g : ℕ → List ℤ} → ((t : ℕ) → P t → f t ≡ g t) → Replaced P f old new → Replaced P g old new
+  replaced-as e r = record { own = λ t h. r .own t h ∙ e t h; others = r .others }
+
+-- ---- macroblocks after macroblocks
+
+module _ (f : ℕ → List ℤ) {old new : ℕ → List ℤ} where
+  pub among-one : (m : ℕ) → Replaced (λ t. t / 16 ≡ m) f old new → Replaced (Among m (m + 1)) f old new
+  among-one m r = record { own = λ t h. r .own t (omega (arith, h)); others = λ t n. r .others t (λ e. n (omega (arith, e), omega (arith, e))) }
+
+  pub among-as : {a b : ℕ} (a' b' : ℕ) → a ≡ a' → b ≡ b' → Replaced (Among a b) f old new → Replaced (Among a' b') f old new
+  among-as a' b' e h r = record { own = λ t l. r .own t (omega (arith, l), omega (arith, l)); others = λ t n. r .others t (λ l. n (omega (arith, l), omega (arith, l))) }
+
+  pub among-more : {mid : ℕ → List ℤ} (a b c : ℕ) → a ≤ b → b ≤ c → Replaced (Among a b) f old mid → Replaced (Among b c) f mid new → Replaced (Among a c) f old new
+  among-more a b c h k p q = record {
+    own = λ t l. by-cases (decLt (t / 16) b) (λ u. q .others t (λ z. absurd (omega (arith, z, u))) ∙ p .own t (l .0, u)) (λ u. q .own t (omega (arith, u), l .1));
+    others = λ t n. q .others t (λ z. n (omega (arith, z), z .1)) ∙ p .others t (λ z. n (z .0, omega (arith, z)));
+  }
+
+pub among-none : (a : ℕ) (f old : ℕ → List ℤ) → Replaced (Among a a) f old old
+among-none a f old = record { own = λ t h. absurd (omega (arith, h)); others = λ t h. refl }
+
+-- ---- a macroblock's blocks: their coefficients 0 among DC and low-pass, the others in its part of the high-pass plane
+
+pub macroblock-replaced : (m : ℕ) (f : ℕ → List ℤ) (g : ℕ → ℤ) (dc low high dc' low' high' z : List ℤ)
+    → Replaced (λ s. s ≡ m) (λ s. z) (zerosOf dc low) (zerosOf dc' low') → Placed (240 * m) 240 g high high'
+    → ((t : ℕ) → length (f t) ≡ 16) → ((t : ℕ) → t / 16 ≡ m → at z (t % 16) ≡ at (f t) 0) → ((t k : ℕ) → t / 16 ≡ m → k < 15 → g (15 * (t % 16) + k) ≡ at (f t) (k + 1))
+    → Replaced (λ t. t / 16 ≡ m) f (blockOf dc low high) (blockOf dc' low' high')
+unfolding blockOf
+macroblock-replaced m f g dc low high dc' low' high' z q p n u v = record {
+  own = λ t e. block-is _ (f t) (n t) (ap (λ x. at x (t % 16)) (q .own (t / 16) e) ∙ u t e)
+      (λ k h. ap (at high') (omega arith) ∙ p .own (15 * (t % 16) + k) (omega arith) ∙ v t k e h);
+  others = λ t o.
+      same-block _ _ (ap (λ x. at x (t % 16)) (q .others (t / 16) o))
+      (λ k h. by-cases (decLt (t / 16) m) (λ l. p .below (15 * t + k) (omega arith)) (λ l. p .above (15 * t + k) (omega (arith, l, o))));
+}
+
+-- four blocks side by side after the others of their macroblock
+
+module _ (w i : ℕ) (grid : List ℤ) where
+  side-by-side : (k l j : ℕ) → k ≡ j / 4 → l ≡ j % 4 → undoneAt w (i + 4 * k * w + 4 * l) grid ≡ undoneIn w i grid j
+  side-by-side k l j e f = ap₂ (λ (a b : ℕ). undoneAt w (i + 4 * a * w + 4 * b) grid) e f
+
+  pub zeros-more : (k : ℕ) (zeros : List ℤ) {old mid new : List ℤ} → 4 * k + 3 < length old → ((l : ℕ) → l < 4 → at zeros l ≡ at (undoneAt w (i + 4 * k * w + 4 * l) grid) 0)
+      → Placed 0 (4 * k) (λ j. at (undoneIn w i grid j) 0) old mid → new ≡ put (strip 1 (4 * k)) (four zeros) mid → Placed 0 (4 * (k + 1)) (λ j. at (undoneIn w i grid j) 0) old new
+  zeros-more k zeros {old} {mid} {new} room z p e =
+      let f : ℕ → ℤ = λ j. at (undoneIn w i grid j) 0 in
+      placed-after 0 (4 * k) (4 * k) 4 (4 * (k + 1)) f (at zeros) f (omega arith) (omega arith) (omega arith) (λ j h. refl) (λ l h. z l h ∙ ap (λ b. at b 0) (side-by-side k l (4 * k + l) (omega arith) (omega arith)))
+      p (subst (λ (a : ℕ). Placed a 4 (at zeros) mid new) (omega arith) (four-placed (4 * k) zeros mid (omega (arith, p .len)) e))
+
+  pub rest-more : (m k : ℕ) {old mid new : List ℤ} → Placed (240 * m) (60 * k) (λ j. at (undoneIn w i grid (j / 15)) (j % 15 + 1)) old mid
+      → Placed (240 * m + 60 * k) 60 (λ j. at (undoneAt w (i + 4 * k * w + 4 * (j / 15)) grid) (j % 15 + 1)) mid new → Placed (240 * m) (60 * (k + 1)) (λ j. at (undoneIn w i grid (j / 15)) (j % 15 + 1)) old new
+  rest-more m k p q =
+      let f : ℕ → ℤ = λ j. at (undoneIn w i grid (j / 15)) (j % 15 + 1) in
+      placed-after (240 * m) (60 * k) (60 * k) 60 (60 * (k + 1)) f (λ j. at (undoneAt w (i + 4 * k * w + 4 * (j / 15)) grid) (j % 15 + 1)) f (omega arith) (omega arith) (omega arith) (λ j h. refl)
+      (λ j h. ap₂ (λ (b : List ℤ) (n : ℕ). at b n) (side-by-side k (j / 15) ((60 * k + j) / 15) (omega arith) (omega arith)) (omega arith)) p q
+
+  pub length-undone : (k : ℕ) → length (undoneIn w i grid k) ≡ 16
+  unfolding undoneAt undo core get
+  length-undone k = refl
+
+-- ---- a macroblock's squares in the samples
+
+module _ {W : ℕ} (wide : 0 < W) (r c : ℕ) (beside : c < W) where
+  pub sample-square : (samples : List ℤ) (t : ℕ) → t / 16 ≡ r * W + c → undoneIn (16 * W) (16 * r * (16 * W) + 16 * c) samples (t % 16) ≡ undo core (squareIn W samples t)
+  unfolding squareIn undoneAt
+  sample-square samples t e =
+      let k = t % 16 in
+      let row : t / 16 / W ≡ r = rw e (digits-div r beside) in
+      let column : t / 16 % W ≡ c = rw e (digits-mod r beside) in
+      let place : blockAt W t ≡ (4 * r + k / 4) * (4 * W) + (4 * c + k % 4) = ap₂ (λ (i j : ℕ). (4 * i + k / 4) * (4 * W) + (4 * j + k % 4)) row column in
+      let low : 4 * c + k % 4 < 4 * W = omega arith in
+      rw (place, digits-div (4 * r + k / 4) low, digits-mod (4 * r + k / 4) low) (ap₂ (λ (w i : ℕ). undo core (get (square w i) samples)) (omega arith) (omega arith))
+
+  pub macroblock-inside : (H : ℕ) → r < H → (r * W + c < W * H) × (16 * r * (16 * W) + 16 * c + 15 * (16 * W) + 15 < 256 * (W * H))
+  macroblock-inside H h = let most : (r + 1) * W ≤ H * W = mul-le-mul-right W (omega arith) in (omega (arith, rw (add-mul r 1 W) at most), omega (arith, rw (add-mul r 1 W) at most))

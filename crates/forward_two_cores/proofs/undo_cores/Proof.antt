@@ -1,0 +1,69 @@
+-- Row after row, and then the blocks are the squares of the level's grid.
+use Prim.Native.Nat.{ℕ, _+_, _-_, _*_, _≤_}
+use mathlib.Core.Path.{_≡_, refl, sym, _∙_}
+use mathlib.Core.List.{List}
+use native.Mathlib.Omega.{arith}
+use native.Mathlib.Nat.{add-mul}
+use borrow.Author.Needs.{needs}
+use lib.ListN.{length}
+use lib.IntN.{ℤ}
+use Rattle.lifting.specs.Program.{undo}
+use Rattle.figures.specs.Figures.{core}
+use Rattle.forward_two_cores.specs.Blocks.{blockOf, squareIn, Among, Replaced}
+use Rattle.forward_two_cores.proofs.Stores.{among-none, among-as, among-more}
+use Rattle.forward_two_cores.proofs.Whole.{sample-block, second-undone}
+use Rattle.forward_two_cores.proofs.undo_cores.Statement.{statement}
+use Rattle.forward_two_cores.proofs.undo_cores.Tie as tie
+
+abbrev Inv-loop : tie.InvT-loop
+Inv-loop size samples dc₀ low₀ high₀ down height r₀ dc low high r =
+    let W = size .width .0 in
+    (r ≤ height) × (length dc ≡ length dc₀) × (length low ≡ length low₀) × (length high ≡ length high₀)
+    × Replaced (Among 0 (r * W)) (λ t. undo core (squareIn W samples t)) (blockOf dc₀ low₀ high₀) (blockOf dc low high)
+
+abbrev μ-loop : tie.MeasureT-loop
+μ-loop size samples dc₀ low₀ high₀ down height r₀ dc low high r = height - r
+
+loop-holds : tie.Need-loop-holds Inv-loop μ-loop
+loop-holds c = (omega arith, refl, refl, refl, among-as _ 0 (0 * c .args .size .width .0) refl (omega arith) (among-none 0 _ _))
+
+undo-row-requires : tie.Need-undo-row-requires Inv-loop μ-loop
+undo-row-requires c κs = let s = c .before .before .before .before .before in let n = s .pre .1 .1 in ((s .pre .0, omega arith), (s .pre .1 .0, (omega (arith, n), omega (arith, n), omega (arith, n))))
+
+loop-again : tie.Need-loop-again Inv-loop μ-loop
+loop-again c =
+    let d = c .before .before .before in
+    let l = d .before .before .before .before .before in
+    let v = l .loop .inv in
+    let W = l .before .args .size .width .0 in
+    let r = l .loop .r in
+    let f : ℕ → List ℤ = λ t. undo core (squareIn W (l .before .args .samples .now) t) in
+    (omega arith, omega arith, omega arith, omega arith, among-as f 0 ((r + 1) * W) refl (sym (add-mul r 1 W ∙ omega arith)) (among-more f 0 (r * W) (r * W + W) (omega arith) (omega arith) (v .4) (d .undo-row .ensures)))
+
+same-length : tie.Need-same-length Inv-loop μ-loop
+same-length c = c .before .loop .inv .1
+
+same-length-2 : tie.Need-same-length-2 Inv-loop μ-loop
+same-length-2 c = c .before .loop .inv .2
+
+same-length-3 : tie.Need-same-length-3 Inv-loop μ-loop
+same-length-3 c = c .before .loop .inv .3
+
+returns : tie.Need-returns Inv-loop μ-loop
+returns c =
+    let l = c .before in
+    let s = l .before in
+    let a = s .args in
+    let W = a .size .width .0 in
+    let H = a .size .height .0 in
+    let wide = s .pre .0 .wide in
+    let tall = s .pre .0 .tall in
+    let all : l .loop .r ≡ H = omega arith in
+    let most : l .loop .r * W ≡ W * H = rw all (omega arith) in
+    second-undone wide H tall (squareIn W (a .samples .now)) (l .loop .dc) (l .loop .low) (l .loop .high) (a .samples .now) (s .pre .1 .0)
+    (λ b h. sample-block wide H tall (a .samples .now) b) (λ t h. l .loop .inv .4 .own t (omega arith, omega (arith, most)))
+
+pub undo-cores-spec : {M : Type 1} → statement M
+undo-cores-spec =
+    tie.close
+    (tie.spec Inv-loop μ-loop (λ c. search needs) loop-holds undo-row-requires (λ c. omega arith) (λ c. omega arith) loop-again same-length same-length-2 same-length-3 returns)

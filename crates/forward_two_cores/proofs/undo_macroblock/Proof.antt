@@ -1,0 +1,71 @@
+-- Four blocks after four: those before the next are undone, their coefficients 0 in the array of sixteen.
+use Prim.Native.Nat.{ℕ, _+_, _-_, _*_, _/_, _%_, _≤_}
+use mathlib.Core.Path.{_≡_, refl, _∙_, ap, ap₂}
+use mathlib.Core.List.{List}
+use native.Mathlib.Omega.{arith}
+use native.Mathlib.Nat.{mul-le-mul-right}
+use lib.ListN.{length}
+use lib.IntN.{ℤ}
+use Rattle.lifting.specs.Program.{at as number}
+use Rattle.forward_kernel.specs.Placed.{Placed}
+use Rattle.forward_kernel.proofs.Stores.{placed-none, placed-up-to}
+use Rattle.forward_two_cores.specs.Blocks.{undoneIn}
+use Rattle.forward_two_cores.proofs.Stores.{zeros-more, rest-more, length-undone, macroblock-replaced}
+use Rattle.forward_two_cores.proofs.undo_macroblock.Statement.{statement}
+use Rattle.forward_two_cores.proofs.undo_macroblock.Tie as tie
+
+abbrev Inv-loop : tie.InvT-loop
+Inv-loop grid w at dc low high₀ m z₀ k₀ high z k =
+    (k ≤ 4) × (length z ≡ 16) × (length z₀ ≡ 16) × (length high ≡ length high₀) × Placed 0 (4 * k) (λ j. number (undoneIn w at grid j) 0) z₀ z × Placed (240 * m) (60 * k) (λ j. number (undoneIn w at grid (j / 15)) (j % 15 + 1)) high₀ high
+
+abbrev μ-loop : tie.MeasureT-loop
+μ-loop grid w at dc low high₀ m z₀ k₀ high z k = 4 - k
+
+-- the row of blocks is one of the macroblock's
+row : (c : tie.In-loop Inv-loop μ-loop) → 4 * c .before .loop .k * c .before .before .args .w ≤ 12 * c .before .before .args .w
+row c = mul-le-mul-right (c .before .before .args .w) (omega arith)
+
+loop-holds : tie.Need-loop-holds Inv-loop μ-loop
+loop-holds c = (omega arith, refl, refl, refl, placed-none 0 _ _, placed-none (240 * c .args .m) _ _)
+
+mul-undo-four-cores-2 : tie.Need-mul-undo-four-cores-2 Inv-loop μ-loop
+mul-undo-four-cores-2 c = omega (arith, row c)
+
+add-undo-four-cores : tie.Need-add-undo-four-cores Inv-loop μ-loop
+add-undo-four-cores c = omega (arith, row c)
+
+undo-four-cores-requires : tie.Need-undo-four-cores-requires Inv-loop μ-loop
+undo-four-cores-requires c κs = omega (arith, row (c .before))
+
+loop-again : tie.Need-loop-again Inv-loop μ-loop
+loop-again c =
+    let put = c .before in
+    let done = put .before .before .before in
+    let l = done .before .before .before in
+    let a = l .before .args in
+    let v = l .loop .inv in
+    let e = done .undo-four-cores .ensures in (
+      omega arith,
+      omega arith,
+      v .2,
+      omega arith,
+      zeros-more (a .w) (a .at) (a .grid .now) (l .loop .k) (done .undo-four-cores .result) (omega arith) (e .0) (v .4) (put .put-four .ensures),
+      rest-more (a .w) (a .at) (a .grid .now) (a .m) (l .loop .k) (v .5) (e .1),
+    )
+
+returns : tie.Need-returns Inv-loop μ-loop
+returns c =
+    let put = c .before .before in
+    let l = put .before .before .before .before .before in
+    let a = l .before .args in
+    let v = l .loop .inv in
+    let f : ℕ → List ℤ = undoneIn (a .w) (a .at) (a .grid .now) in
+    let z = placed-up-to (4 * l .loop .k) 16 (omega arith) (v .4) in
+    macroblock-replaced (a .m) (λ t. f (t % 16)) (λ j. number (f (j / 15)) (j % 15 + 1)) (a .dc .now) (a .low .now) (a .high .now) _ _ _ _ (put .put-zeros .ensures) (placed-up-to (60 * l .loop .k) 240 (omega arith) (v .5))
+    (λ t. length-undone (a .w) (a .at) (a .grid .now) (t % 16)) (λ t e. ap (number (l .loop .z)) (omega arith) ∙ z .own (t % 16) (omega arith))
+    (λ t k e h. ap₂ (λ (i j : ℕ). number (f i) j) (omega arith) (omega arith))
+
+pub undo-macroblock-spec : {M : Type 1} → statement M
+undo-macroblock-spec =
+    tie.close
+    (tie.spec Inv-loop μ-loop loop-holds (λ c. omega arith) mul-undo-four-cores-2 add-undo-four-cores (λ c. omega arith) (λ c. omega arith) (λ c. omega arith) undo-four-cores-requires (λ c. omega arith) (λ c. omega arith) (λ c κs. omega arith) (λ c. omega arith) (λ c. omega arith) loop-again (λ c. omega arith) (λ c κs. omega arith) (λ c. omega arith) (λ c. omega arith) (λ c. omega arith) returns)

@@ -1,0 +1,94 @@
+// The core transforms of level two undone from a grid into the three planes, four blocks at a time: a macroblock, and all of a picture from its samples.
+ghost use mathlib.Core.Path.{_≡_};
+ghost use Prim.Native.Nat.{_+_, _*_, _/_, _%_, _<_};
+ghost use lib.ListN.{length};
+ghost use Rattle.lifting.specs.Program.{undo};
+ghost use Rattle.figures.specs.Figures.{core};
+ghost use Rattle.picture.specs.Level.{cores};
+ghost use Rattle.picture.specs.Planes.{firstGrid, secondGrid};
+ghost use Rattle.picture.specs.Sizes.{macroblocks, Sized};
+ghost use Rattle.forward_two_cores.specs.Blocks.{zerosOf, blockOf, squareIn, undoneIn, Among, Replaced};
+use forward_kernel::undo_four_cores;
+use grid::put_four;
+use picture::size::Size;
+
+// The coefficients 0 of macroblock m's blocks: its DC number and its low-pass numbers.
+fn put_zeros(dc: &mut [i32], low: &mut [i32], m: usize, z: &[i32])
+    requires { ⌜ (m < length (now dc)) × (15 * m + 14 < length (now low)) ⌝ }
+    requires { ⌜ length (now z) ≡ 16 ⌝ }
+    ensures { λ u. ⌜ Replaced (λ s. s ≡ m) (λ s. now (z .entry)) (zerosOf (now (dc .entry)) (now (low .entry))) (zerosOf (now (dc .exit)) (now (low .exit))) ⌝ }
+{
+    dc[m] = z[0];
+    for k in 0..15 {
+        low[15 * m + k] = z[k + 1];
+    }
+}
+
+// The blocks of macroblock m from their squares in a grid of `w` columns, of which the first number stands at `at`.
+pub fn undo_macroblock(
+    grid: &[i32],
+    w: usize,
+    at: usize,
+    dc: &mut [i32],
+    low: &mut [i32],
+    high: &mut [i32],
+    m: usize,
+)
+    requires { ⌜ at + 15 * w + 15 < length (now grid) ⌝ }
+    requires { ⌜ (m < length (now dc)) × (15 * m + 14 < length (now low)) × (240 * m + 239 < length (now high)) ⌝ }
+    ensures { λ u. ⌜ Replaced (λ t. t / 16 ≡ m) (λ t. undoneIn w at (now (grid .entry)) (t % 16))
+        (blockOf (now (dc .entry)) (now (low .entry)) (now (high .entry))) (blockOf (now (dc .exit)) (now (low .exit)) (now (high .exit))) ⌝ }
+{
+    let mut z = [0i32; 16];
+    for k in 0..4 {
+        let zeros = undo_four_cores(grid, w, at + 4 * k * w, high, 240 * m + 60 * k);
+        put_four(&mut z, 1, 4 * k, zeros);
+    }
+    put_zeros(dc, low, m, &z);
+}
+
+// Row r of a picture's macroblocks.
+fn undo_row(
+    size: Size,
+    r: usize,
+    samples: &[i32],
+    dc: &mut [i32],
+    low: &mut [i32],
+    high: &mut [i32],
+)
+    requires { ⌜ Sized size × (r < size .height .0) ⌝ }
+    requires { ⌜ length (now samples) ≡ 256 * macroblocks size ⌝ }
+    requires { ⌜ (length (now dc) ≡ macroblocks size) × (length (now low) ≡ 15 * macroblocks size) × (length (now high) ≡ 240 * macroblocks size) ⌝ }
+    ensures { λ u. ⌜ Replaced (Among (r * size .width .0) (r * size .width .0 + size .width .0)) (λ t. undo core (squareIn (size .width .0) (now (samples .entry)) t))
+        (blockOf (now (dc .entry)) (now (low .entry)) (now (high .entry))) (blockOf (now (dc .exit)) (now (low .exit)) (now (high .exit))) ⌝ }
+{
+    let across = size.width.0;
+    let width = across as usize;
+    let w = 16 * width;
+    for c in 0..width {
+        undo_macroblock(
+            samples,
+            w,
+            16 * r * w + 16 * c,
+            dc,
+            low,
+            high,
+            r * width + c,
+        );
+    }
+}
+
+// All macroblocks of a picture, from its samples.
+pub fn undo_cores(size: Size, samples: &[i32], dc: &mut [i32], low: &mut [i32], high: &mut [i32])
+    requires { ⌜ Sized size ⌝ }
+    requires { ⌜ length (now samples) ≡ 256 * macroblocks size ⌝ }
+    requires { ⌜ (length (now dc) ≡ macroblocks size) × (length (now low) ≡ 15 * macroblocks size) × (length (now high) ≡ 240 * macroblocks size) ⌝ }
+    ensures { λ u. ⌜ secondGrid (size .width .0) (size .height .0) (firstGrid (size .width .0) (size .height .0) (now (dc .exit)) (now (low .exit))) (now (high .exit)) ≡
+        undo (cores (4 * size .width .0) (4 * size .height .0)) (now (samples .entry)) ⌝ }
+{
+    let down = size.height.0;
+    let height = down as usize;
+    for r in 0..height {
+        undo_row(size, r, samples, dc, low, high);
+    }
+}

@@ -1,0 +1,3 @@
+pub mod Alone
+pub mod Numbers
+pub mod Strips

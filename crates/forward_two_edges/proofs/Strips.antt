@@ -1,0 +1,278 @@
+-- The strip filled piece by piece: what is stored along a line, what that settles by rows and columns, and how settled rows and columns join.
+use Prim.Native.Nat.{ℕ, _+_, _-_, _*_, _/_, _%_, _≤_, _<_}
+use mathlib.Core.Path.{_≡_, refl, sym, _∙_, ap, ap₂}
+use mathlib.Core.Logic.{_⊎_, inl, inr, by-cases}
+use mathlib.Core.List.{List}
+use native.Mathlib.Omega.{arith}
+use native.Mathlib.Decide.{ℕ-discrete, decLt}
+use native.Mathlib.Nat.{add-mul, mul-le-mul-right}
+use lib.ListN.{length, set, length-set}
+use lib.Seq.{getD-set-same, getD-set-other}
+use lib.IntN.{ℤ, pos}
+use Rattle.lifting.specs.Program.{at, get, put, undo}
+use Rattle.figures.specs.Block.{four}
+use Rattle.figures.specs.Figures.{fourFilter}
+use Rattle.picture.specs.Level.{cell, strip as line, filters}
+use Rattle.picture.specs.Sizes.{macroblocks, Sized}
+use Rattle.picture.specs.declared.size.Size.{Size}
+use Rattle.picture.proofs.CheckLaws.{few}
+use Rattle.forward_kernel.proofs.Stores.{below-four}
+use Rattle.forward_two_edges.specs.Unfiltered.{unfiltered, Edge}
+use Rattle.forward_two_edges.specs.Strip.{Holds, Kept, Rows, Spread, unfilteredAt}
+use Rattle.forward_two_edges.proofs.Numbers.{cell-low, row-at, column-at, corner-at}
+
+-- ---- numbers along a line
+
+pub gap : (k n step : ℕ) → k < n → k * step + step ≤ n * step
+gap k n step h = let e : (k + 1) * step ≤ n * step = mul-le-mul-right step (omega arith) in omega (arith, rw (add-mul k 1 step) at e)
+
+pub spread-none : (i step : ℕ) (f : ℕ → ℤ) (v : List ℤ) → Spread i step 0 f v v
+spread-none i step f v = record { len = refl; own = λ k h. absurd (omega arith); others = λ j h. refl }
+
+spread-next : (i step n : ℕ) (f : ℕ → ℤ) {old mid : List ℤ} (j : ℕ) {x : ℤ} → 0 < step → j ≡ i + n * step → j < length old → x ≡ f n → Spread i step n f old mid → Spread i step (n + 1) f old (set mid j x)
+spread-next i step n f {old} {mid} j {x} far e room q p = record {
+  len = length-set mid j x ∙ p .len;
+  own = λ k h. by-cases (ℕ-discrete k n)
+      (λ y. ap (at (set mid j x)) (ap (λ (m : ℕ). i + m * step) y ∙ sym e) ∙ getD-set-same mid j x (pos 0) (omega (arith, p .len)) ∙ q ∙ ap f (sym y))
+      (λ o. getD-set-other mid j (i + k * step) x (pos 0) (λ y. absurd (omega (arith, y, gap k n step (omega (arith, o))))) ∙ p .own k (omega (arith, o)));
+  others = λ k h. getD-set-other mid j k x (pos 0) (λ y. h n (omega arith) (y ∙ e)) ∙ p .others k (λ m l. h m (omega arith));
+}
+
+spread-four : (i step : ℕ) (xs old : List ℤ) → 0 < step → i + step + step + step < length old → Spread i step 4 (at xs) old (put (line step i) (four xs) old)
+unfolding put
+spread-four i step xs old far room =
+    spread-next i step 3 (at xs) (i + step + step + step) far (omega arith) (omega arith) refl
+    (spread-next i step 2 (at xs) (i + step + step) far (omega arith) (omega arith) refl
+    (spread-next i step 1 (at xs) (i + step) far (omega arith) (omega arith) refl (spread-next i step 0 (at xs) i far (omega arith) (omega arith) refl (spread-none i step (at xs) old))))
+
+-- four more
+pub spread-more : (i step n a : ℕ) (f : ℕ → ℤ) (xs : List ℤ) {old mid new : List ℤ} → 0 < step → a ≡ i + 4 * n * step → a + step + step + step < length old → ((k : ℕ) → k < 4 → at xs k ≡ f (4 * n + k))
+    → Spread i step (4 * n) f old mid → new ≡ put (line step a) (four xs) mid → Spread i step (4 * (n + 1)) f old new
+spread-more i step n a f xs {old} {mid} {new} far e room v p w =
+    let q : Spread a step 4 (at xs) mid new = rw w (spread-four a step xs mid far (omega (arith, p .len))) in
+    record {
+      len = q .len ∙ p .len;
+      own = λ k h. by-cases (decLt k (4 * n))
+          (λ l. q .others (i + k * step) (λ m o y. absurd (omega (arith, y, e, gap k (4 * n) step l))) ∙ p .own k l)
+          (λ l.
+          let m = k - 4 * n in
+          let b : 4 * n * step + m * step ≡ k * step = sym (add-mul (4 * n) m step) ∙ ap (λ (j : ℕ). j * step) (omega (arith, l)) in
+          ap (at new) (omega (arith, b, e)) ∙ q .own m (omega (arith, l)) ∙ v m (omega (arith, l)) ∙ ap f (omega (arith, l)));
+      others = λ j h.
+          q .others j (λ m o y. h (4 * n + m) (omega arith) (y ∙ e' m)) ∙ p .others j (λ m o. h m (omega arith));
+    }
+  where
+    e' : (m : ℕ) → a + m * step ≡ i + (4 * n + m) * step
+    e' m = rw (add-mul (4 * n) m step) (omega arith)
+
+-- what a four read and unfiltered says of each number
+pub unfiltered-four : (samples : List ℤ) (step a l : ℕ) (x v : List ℤ) → four x ≡ get (line step (a + 4 * step * l)) samples → four v ≡ undo fourFilter (four x)
+    → (k : ℕ) → k < 4 → at v k ≡ at (unfilteredAt samples step (a + 4 * step * ((4 * l + k) / 4))) ((4 * l + k) % 4)
+unfolding unfilteredAt
+unfiltered-four samples step a l x v e f k h =
+    below-four (λ j. at v j ≡ at (four v) j) refl refl refl refl k h ∙ ap (λ y. at y k) (f ∙ ap (undo fourFilter) e)
+    ∙ ap₂ (λ (m n : ℕ). at (undo fourFilter (get (line step (a + 4 * step * m)) samples)) n) (omega arith) (omega arith)
+
+-- ---- rows and columns that join
+
+module _ {size : Size} {samples : List ℤ} (r c : ℕ) where
+  pub holds-kept : (t b l k t' b' l' k' : ℕ) {old new : List ℤ} → k ≤ 72 → ((y x : ℕ) → t ≤ y → y < b → l ≤ x → x < k → t' ≤ y → y < b' → l' ≤ x → x < k' → ⊥)
+      → Holds size samples r c t b l k old → Kept t' b' l' k' old new → Holds size samples r c t b l k new
+  holds-kept t b l k t' b' l' k' h apart d e = record { there = λ y x f g m n u v. e .same y x (omega arith) (apart y x f g m n) ∙ d .there y x f g m n u v }
+
+  pub holds-under : (t m b l k : ℕ) {v : List ℤ} → Holds size samples r c t m l k v → Holds size samples r c m b l k v → Holds size samples r c t b l k v
+  holds-under t m b l k d e = record { there = λ y x f g n o u v. by-cases (decLt y m) (λ z. d .there y x f z n o u v) (λ z. e .there y x (omega (arith, z)) g n o u v) }
+
+  pub holds-beside : (t b l m k : ℕ) {v : List ℤ} → Holds size samples r c t b l m v → Holds size samples r c t b m k v → Holds size samples r c t b l k v
+  holds-beside t b l m k d e = record { there = λ y x f g n o u v. by-cases (decLt x m) (λ z. d .there y x f g n z u v) (λ z. e .there y x f g (omega (arith, z)) o u v) }
+
+  pub holds-as : {t b l k : ℕ} (t' b' l' k' : ℕ) {v : List ℤ} → t ≤ t' → b' ≤ b → l ≤ l' → k' ≤ k → Holds size samples r c t b l k v → Holds size samples r c t' b' l' k' v
+  holds-as t' b' l' k' e f g h d = record { there = λ y x m n o p u v. d .there y x (omega arith) (omega arith) (omega arith) (omega arith) u v }
+
+  -- one more row
+  pub holds-next : (t y l k : ℕ) {old new : List ℤ} → k ≤ 72 → Holds size samples r c t y l k old → Holds size samples r c y (y + 1) l k new → Kept y (y + 1) l k old new → Holds size samples r c t (y + 1) l k new
+  holds-next t y l k h d e f = holds-under t y (y + 1) l k (holds-kept t y l k y (y + 1) l k h (λ z x a b m n u v o w. absurd (omega arith)) d f) e
+
+pub kept-none : (t b l k : ℕ) (v : List ℤ) → Kept t b l k v v
+kept-none t b l k v = record { len = refl; same = λ y x h n. refl }
+
+pub kept-as : {t b l k : ℕ} (t' b' l' k' : ℕ) {old new : List ℤ} → t' ≤ t → b ≤ b' → l' ≤ l → k ≤ k' → Kept t b l k old new → Kept t' b' l' k' old new
+kept-as t' b' l' k' e f g h d = record { len = d .len; same = λ y x m n. d .same y x m (λ p q u v. n (omega arith) (omega arith) (omega arith) (omega arith)) }
+
+pub kept-then : {t b l k : ℕ} {old mid new : List ℤ} → Kept t b l k old mid → Kept t b l k mid new → Kept t b l k old new
+kept-then d e = record { len = e .len ∙ d .len; same = λ y x m n. e .same y x m n ∙ d .same y x m n }
+
+-- ---- places of the samples
+
+pub place-low : (size : Size) → Sized size → (y x : ℕ) → y < 16 * size .height .0 → x < 16 * size .width .0
+    → (y * (16 * size .width .0) + x < 256 * macroblocks size) × (256 * macroblocks size ≤ 55507200)
+place-low size z y x h k =
+    let W = size .width .0 in
+    let H = size .height .0 in
+    (omega (arith, cell-low (4 * W) (4 * H) y x (omega arith) (omega arith)), omega (arith, few W H (z .most-wide) (z .most-tall)))
+
+-- ---- what a line settles
+
+module _ (size : Size) (samples : List ℤ) (wide : 0 < size .width .0) (tall : 0 < size .height .0) (len : length samples ≡ 256 * macroblocks size) (r c : ℕ) where
+  abbrev W : ℕ
+  W = size .width .0
+
+  abbrev H : ℕ
+  H = size .height .0
+
+  room : length samples ≡ 16 * (4 * W * (4 * H))
+  room = len ∙ omega arith
+
+  -- n fours of row y
+  pub row-filled : (y n a : ℕ) {old new : List ℤ} → n ≤ 16 → 4 * c + n < 4 * W → Edge (4 * H) (16 * r + y) → 16 * r + y < 16 * H → a ≡ (16 * r + y) * (16 * W) + 16 * c + 2
+      → Spread (72 * y + 2) 1 (4 * n) (λ j. at (unfilteredAt samples 1 (a + 4 * 1 * (j / 4))) (j % 4)) old new
+      → Holds size samples r c y (y + 1) 2 (4 * n + 2) new × Kept y (y + 1) 2 (4 * n + 2) old new
+  unfolding unfilteredAt unfiltered
+  row-filled y n a {old} {new} few some edge low e d = (
+    record {
+      there = λ z x f g h k u v.
+          let j = x - 2 in
+          let i = 4 * c + j / 4 in
+          let same : z ≡ y = omega arith in
+          ap (at new) (omega (arith, same)) ∙ d .own j (omega arith)
+          ∙ ap (λ (b : ℕ). at (undo fourFilter (get (line 1 b) samples)) (j % 4)) (omega (arith, e))
+          ∙ sym (row-at (4 * W) (4 * H) samples room (16 * r + y) i (j % 4) (omega arith) edge (omega arith) (omega arith))
+          ∙ ap₂ (λ (m b : ℕ). at (undo (filters (4 * W) (4 * H)) samples) (cell (4 * W) (16 * r + m) b)) (sym same) (omega arith);
+    },
+    record { len = d .len; same = λ z x h o. d .others (72 * z + x) (λ k l q. o (omega (arith, q)) (omega (arith, q)) (omega (arith, q)) (omega (arith, q))) },
+  )
+
+  -- n fours of column x
+  pub column-filled : (x n a i : ℕ) {old new : List ℤ} → x < 72 → 4 * r + n < 4 * H → Edge (4 * W) (16 * c + x) → 16 * c + x < 16 * W → a ≡ (16 * r + 2) * (16 * W) + 16 * c + x → i ≡ 144 + x
+      → Spread i 72 (4 * n) (λ j. at (unfilteredAt samples (16 * W) (a + 4 * (16 * W) * (j / 4))) (j % 4)) old new
+      → Holds size samples r c 2 (4 * n + 2) x (x + 1) new × Kept 2 (4 * n + 2) x (x + 1) old new
+  unfolding unfilteredAt unfiltered
+  column-filled x n a i {old} {new} few some edge low e f d = (
+    record {
+      there = λ y z g h k l u v.
+          let j = y - 2 in
+          let m = 4 * r + j / 4 in
+          let same : z ≡ x = omega arith in
+          ap (at new) (omega (arith, same)) ∙ d .own j (omega arith)
+          ∙ ap₂ (λ (w b : ℕ). at (undo fourFilter (get (line w b) samples)) (j % 4)) (omega arith) (omega (arith, e))
+          ∙ sym (column-at (4 * W) (4 * H) samples room (16 * c + x) m (j % 4) (omega arith) edge (omega arith) (omega arith))
+          ∙ ap₂ (λ (b o : ℕ). at (undo (filters (4 * W) (4 * H)) samples) (cell (4 * W) b (16 * c + o))) (omega arith) (sym same);
+    },
+    record { len = d .len; same = λ y z h o. d .others (72 * y + z) (λ k l q. o (omega (arith, q)) (omega (arith, q)) (omega (arith, q)) (omega (arith, q))) },
+  )
+
+  -- one number at a corner
+  pub corner-number : (y x : ℕ) → Edge (4 * H) y → y < 16 * H → Edge (4 * W) x → x < 16 * W → at (unfiltered size samples) (cell (4 * W) y x) ≡ at samples (cell (4 * W) y x)
+  unfolding unfiltered
+  corner-number y x ey hy ex hx = which ey ex
+    where
+      corner : (b a : ℕ) → Edge (4 * H) b → Edge (4 * H) (b + 1) → Edge (4 * W) a → Edge (4 * W) (a + 1) → b ≤ y → y < b + 2 → a ≤ x → x < a + 2
+          → at (undo (filters (4 * W) (4 * H)) samples) (cell (4 * W) y x) ≡ at samples (cell (4 * W) y x)
+      corner b a eb eb' ea ea' h k l m =
+          ap₂ (λ (i j : ℕ). at (undo (filters (4 * W) (4 * H)) samples) (cell (4 * W) i j)) (omega arith) (omega arith)
+          ∙ corner-at (4 * W) (4 * H) samples room b a (y - b) (x - a) (omega arith) (omega arith) eb eb' ea ea' (omega arith) (omega arith) (omega arith)
+          ∙ ap₂ (λ (i j : ℕ). at samples (cell (4 * W) i j)) (omega arith) (omega arith)
+
+      which : Edge (4 * H) y → Edge (4 * W) x → at (undo (filters (4 * W) (4 * H)) samples) (cell (4 * W) y x) ≡ at samples (cell (4 * W) y x)
+      which (inl e) (inl f) = corner 0 0 (inl (omega arith)) (inl (omega arith)) (inl (omega arith)) (inl (omega arith)) (omega arith) (omega (arith, e)) (omega arith) (omega (arith, f))
+      which (inl e) (inr f) = corner 0 (16 * W - 2) (inl (omega arith)) (inl (omega arith)) (inr (omega arith)) (inr (omega arith)) (omega arith) (omega (arith, e)) (omega (arith, f)) (omega (arith, f))
+      which (inr e) (inl f) = corner (16 * H - 2) 0 (inr (omega arith)) (inr (omega arith)) (inl (omega arith)) (inl (omega arith)) (omega (arith, e)) (omega (arith, e)) (omega arith) (omega (arith, f))
+      which (inr e) (inr f) = corner (16 * H - 2) (16 * W - 2) (inr (omega arith)) (inr (omega arith)) (inr (omega arith)) (inr (omega arith)) (omega (arith, e)) (omega (arith, e)) (omega (arith, f)) (omega (arith, f))
+
+  -- two numbers of row y at a corner
+  pub corner-filled : (y x a i : ℕ) (old : List ℤ) → x ≤ 70 → 72 * y + x + 1 < length old → Edge (4 * H) (16 * r + y) → 16 * r + y < 16 * H → Edge (4 * W) (16 * c + x) → Edge (4 * W) (16 * c + (x + 1)) → 16 * c + x + 1 < 16 * W
+      → a ≡ (16 * r + y) * (16 * W) + 16 * c + x → i ≡ 72 * y + x
+      → let new = set (set old i (at samples a)) (i + 1) (at samples (a + 1)) in Holds size samples r c y (y + 1) x (x + 2) new × Kept y (y + 1) x (x + 2) old new
+  corner-filled y x a i old few inside ey hy ex ex' hx e f =
+      let one = set old i (at samples a) in
+      let new = set one (i + 1) (at samples (a + 1)) in
+      let left : at new (72 * y + x) ≡ at samples a = ap (at new) (sym f) ∙ getD-set-other one (i + 1) i (at samples (a + 1)) (pos 0) (λ q. absurd (omega (arith, q))) ∙ getD-set-same old i (at samples a) (pos 0) (omega arith) in
+      let right : at new (72 * y + (x + 1)) ≡ at samples (a + 1) = ap (at new) (omega arith) ∙ getD-set-same one (i + 1) (at samples (a + 1)) (pos 0) (omega (arith, length-set old i (at samples a))) in (
+        record {
+          there = λ z w g h k l u v.
+              let same : z ≡ y = omega arith in
+              by-cases (ℕ-discrete w x)
+              (λ q. ap₂ (λ (m n : ℕ). at new (72 * m + n)) same q ∙ left ∙ ap (at samples) (omega arith) ∙ sym (corner-number (16 * r + y) (16 * c + x) ey hy ex (omega arith))
+              ∙ ap₂ (λ (m n : ℕ). at (unfiltered size samples) (cell (4 * W) (16 * r + m) (16 * c + n))) (sym same) (sym q))
+              (λ o. let q : w ≡ x + 1 = omega (arith, o) in
+              ap₂ (λ (m n : ℕ). at new (72 * m + n)) same q ∙ right ∙ ap (at samples) (omega arith) ∙ sym (corner-number (16 * r + y) (16 * c + (x + 1)) ey hy ex' (omega arith))
+              ∙ ap₂ (λ (m n : ℕ). at (unfiltered size samples) (cell (4 * W) (16 * r + m) (16 * c + n))) (sym same) (sym q));
+        },
+        record {
+          len = length-set one (i + 1) (at samples (a + 1)) ∙ length-set old i (at samples a);
+          same = λ z w h o.
+              getD-set-other one (i + 1) (72 * z + w) (at samples (a + 1)) (pos 0) (λ q. o (omega (arith, q)) (omega (arith, q)) (omega (arith, q)) (omega (arith, q)))
+              ∙ getD-set-other old i (72 * z + w) (at samples a) (pos 0) (λ q. o (omega (arith, q)) (omega (arith, q)) (omega (arith, q)) (omega (arith, q)));
+        },
+      )
+
+  pub corner-stored : (y x a i : ℕ) (old : List ℤ) {u v : ℤ} → u ≡ at samples a → v ≡ at samples (a + 1) → x ≤ 70 → 72 * y + x + 1 < length old → Edge (4 * H) (16 * r + y) → 16 * r + y < 16 * H → Edge (4 * W) (16 * c + x) → Edge (4 * W) (16 * c + (x + 1)) → 16 * c + x + 1 < 16 * W
+      → a ≡ (16 * r + y) * (16 * W) + 16 * c + x → i ≡ 72 * y + x
+      → let new = set (set old i u) (i + 1) v in Holds size samples r c y (y + 1) x (x + 2) new × Kept y (y + 1) x (x + 2) old new
+  corner-stored y x a i old p q few inside ey hy ex ex' hx e f = rw (p, q) (corner-filled y x a i old few inside ey hy ex ex' hx e f)
+
+-- ---- a row of macroblocks: which of its rows lie at an edge
+
+module _ {size : Size} {r first down : ℕ} (low : r < size .height .0) (rows : Rows size r first down) where
+  pub rows-first : first ≤ 2
+  rows-first = which (rows .top)
+    where
+      which : ((first ≡ 0) × (r ≡ 0)) ⊎ ((first ≡ 2) × (0 < r)) → first ≤ 2
+      which (inl h) = omega (arith, h)
+      which (inr h) = omega (arith, h)
+
+  pub rows-down : (3 ≤ down) × (down ≤ 4) × (4 * r + down < 4 * size .height .0)
+  rows-down = which (rows .bottom)
+    where
+      which : ((down ≡ 3) × (r + 1 ≡ size .height .0)) ⊎ ((down ≡ 4) × (r + 1 < size .height .0)) → (3 ≤ down) × (down ≤ 4) × (4 * r + down < 4 * size .height .0)
+      which (inl h) = (omega (arith, h), omega (arith, h), omega (arith, h))
+      which (inr h) = (omega (arith, h), omega (arith, h), omega (arith, h))
+
+  pub rows-above : (y : ℕ) → first ≤ y → y < 2 → Edge (4 * size .height .0) (16 * r + y) × (16 * r + y < 16 * size .height .0)
+  rows-above y h k = which (rows .top)
+    where
+      which : ((first ≡ 0) × (r ≡ 0)) ⊎ ((first ≡ 2) × (0 < r)) → Edge (4 * size .height .0) (16 * r + y) × (16 * r + y < 16 * size .height .0)
+      which (inl e) = (inl (omega (arith, e)), omega (arith, e))
+      which (inr e) = absurd (omega (arith, e))
+
+  pub rows-below : (y : ℕ) → 4 * down + 2 ≤ y → y < 16 → Edge (4 * size .height .0) (16 * r + y) × (16 * r + y < 16 * size .height .0)
+  rows-below y h k = which (rows .bottom)
+    where
+      which : ((down ≡ 3) × (r + 1 ≡ size .height .0)) ⊎ ((down ≡ 4) × (r + 1 < size .height .0)) → Edge (4 * size .height .0) (16 * r + y) × (16 * r + y < 16 * size .height .0)
+      which (inl e) = (inr (omega (arith, e)), omega (arith, e))
+      which (inr e) = absurd (omega (arith, e))
+
+  -- a row that is neither above the windows' end nor above row 16 is no row of the picture
+  beyond : (y : ℕ) → ¬ (y < 4 * down + 2) → ¬ (y < 16) → y < 18 → 16 * r + y < 16 * size .height .0 → ⊥
+  beyond y h k l m = which (rows .bottom)
+    where
+      which : ((down ≡ 3) × (r + 1 ≡ size .height .0)) ⊎ ((down ≡ 4) × (r + 1 < size .height .0)) → ⊥
+      which (inl e) = omega (arith, e, k)
+      which (inr e) = omega (arith, e, h)
+
+  -- the rows above the windows, those of the windows and those below them
+  pub three-rows : {samples : List ℤ} (c l k : ℕ) {v : List ℤ} → Holds size samples r c first 2 l k v → Holds size samples r c 2 (4 * down + 2) l k v → Holds size samples r c (4 * down + 2) 16 l k v → Holds size samples r c first 18 l k v
+  three-rows c l k a b d =
+      record {
+        there = λ y x f g m n u v.
+            by-cases (decLt y 2) (λ z. a .there y x f z m n u v)
+            (λ z. by-cases (decLt y (4 * down + 2)) (λ w. b .there y x (omega (arith, z)) w m n u v)
+            (λ w. by-cases (decLt y 16) (λ o. d .there y x (omega (arith, w)) o m n u v) (λ o. absurd (beyond y w o g u))));
+      }
+
+  pub columns-joined : {samples : List ℤ} (c x : ℕ) {v0 v1 v2 v3 v4 : List ℤ} → x ≤ 70 → Holds size samples r c first 2 x (x + 2) v1 × Kept first 2 x (x + 2) v0 v1
+      → Holds size samples r c 2 (4 * down + 2) x (x + 1) v2 × Kept 2 (4 * down + 2) x (x + 1) v1 v2 → Holds size samples r c 2 (4 * down + 2) (x + 1) (x + 1 + 1) v3 × Kept 2 (4 * down + 2) (x + 1) (x + 1 + 1) v2 v3
+      → Holds size samples r c (4 * down + 2) 16 x (x + 2) v4 × Kept (4 * down + 2) 16 x (x + 2) v3 v4
+      → Holds size samples r c first 18 x (x + 2) v4 × Kept first 18 x (x + 2) v0 v4
+  columns-joined c x few a b d e =
+      let n = rows-down in
+      let f = rows-first in
+      let above = holds-kept r c first 2 x (x + 2) 2 (4 * down + 2) (x + 1) (x + 1 + 1) (omega arith) (λ y z g h k l m o p q. absurd (omega arith))
+      (holds-kept r c first 2 x (x + 2) 2 (4 * down + 2) x (x + 1) (omega arith) (λ y z g h k l m o p q. absurd (omega arith)) (a .0) (b .1)) (d .1) in
+      let left = holds-kept r c 2 (4 * down + 2) x (x + 1) 2 (4 * down + 2) (x + 1) (x + 1 + 1) (omega arith) (λ y z g h k l m o p q. absurd (omega arith)) (b .0) (d .1) in
+      let both = holds-as r c 2 (4 * down + 2) x (x + 2) (omega arith) (omega arith) (omega arith) (omega arith) (holds-beside r c 2 (4 * down + 2) x (x + 1) (x + 1 + 1) left (d .0)) in (
+        three-rows c x (x + 2) (holds-kept r c first 2 x (x + 2) (4 * down + 2) 16 x (x + 2) (omega arith) (λ y z g h k l m o p q. absurd (omega (arith, n))) above (e .1))
+            (holds-kept r c 2 (4 * down + 2) x (x + 2) (4 * down + 2) 16 x (x + 2) (omega arith) (λ y z g h k l m o p q. absurd (omega arith)) both (e .1)) (e .0),
+        kept-then (kept-as first 18 x (x + 2) (omega arith) (omega arith) (omega arith) (omega arith) (a .1)) (kept-then (kept-as first 18 x (x + 2) (omega arith) (omega (arith, n)) (omega arith) (omega arith) (b .1))
+            (kept-then (kept-as first 18 x (x + 2) (omega arith) (omega (arith, n)) (omega arith) (omega arith) (d .1)) (kept-as first 18 x (x + 2) (omega (arith, n)) (omega arith) (omega arith) (omega arith) (e .1)))),
+      )

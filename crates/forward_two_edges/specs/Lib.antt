@@ -1,0 +1,2 @@
+pub mod Unfiltered
+pub mod Strip

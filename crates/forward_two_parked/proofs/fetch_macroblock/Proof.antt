@@ -1,0 +1,66 @@
+-- Block after block.
+use Prim.Native.Nat.{ℕ, _+_, _-_, _*_, _≤_, _<_}
+use mathlib.Core.Path.{_≡_, sym, _∙_, ap}
+use mathlib.Core.List.{[], _∷_}
+use native.Mathlib.Omega.{arith}
+use borrow.Author.Needs.{needs}
+use Rattle.lifting.specs.Program.{at}
+use Rattle.lifting.proofs.Bits.{back}
+use Rattle.figures.proofs.Parts.{kept}
+use Rattle.forward_kernel.proofs.Stores.{below-four}
+use Rattle.forward_two_cores.specs.Blocks.{zerosOf, blockOf}
+use Rattle.forward_two_edges.specs.Strip.{Kept}
+use Rattle.forward_two_edges.proofs.Strips.{kept-none, kept-as, kept-then}
+use Rattle.forward_two_parked.specs.Parked.{placeIn}
+use Rattle.forward_two_parked.proofs.Numbers.{zero-at, block-of, blocks-fetched}
+use Rattle.forward_two_parked.proofs.fetch_macroblock.Statement.{statement}
+use Rattle.forward_two_parked.proofs.fetch_macroblock.Tie as tie
+
+abbrev Inv-loop : tie.InvT-loop
+Inv-loop dc low high m b strip₀ zeros k₀ strip k =
+    (k ≤ 4) × ((i j : ℕ) → i < k → j < 8 → at strip (placeIn 0 b i j) ≡ at (blockOf dc low high (16 * m + i)) j) × Kept 0 2 (16 * b) (16 * b + 16) strip₀ strip
+
+abbrev μ-loop : tie.MeasureT-loop
+μ-loop dc low high m b strip₀ zeros k₀ strip k = 4 - k
+
+loop-holds : tie.Need-loop-holds Inv-loop μ-loop
+loop-holds c = (omega arith, λ i j h l. absurd (omega arith), kept-none 0 2 (16 * c .before .before .before .before .args .b) (16 * c .before .before .before .before .args .b + 16) (c .before .before .before .before .args .strip .now))
+
+fetch-block-requires : tie.Need-fetch-block-requires Inv-loop μ-loop
+fetch-block-requires c κs = let l = c .before .before .before in let s = l .before .before .before .before .before in (omega (arith, s .pre .0), omega (arith, s .pre .1), l .loop .inv .2 .len ∙ s .pre .1 .1)
+
+loop-again : tie.Need-loop-again Inv-loop μ-loop
+loop-again c =
+    let d = c .before in
+    let l = d .before .before .before .before in
+    let t4 = l .before in
+    let t3 = t4 .before in
+    let t2 = t3 .before in
+    let t1 = t2 .before in
+    let s = t1 .before in
+    let a = s .args in
+    let v = l .loop .inv in
+    let e = d .fetch-block .ensures in
+    let k = l .loop .k in
+    let few : k < 4 = omega (arith, d .before .before .before .loop-test) in
+    let dc = a .dc .now in
+    let low = a .low .now in
+    let zeros = kept (at dc (a .m)) ∷ kept (at low (15 * a .m)) ∷ kept (at low (15 * a .m + 1)) ∷ kept (at low (15 * a .m + 2)) ∷ [] in
+    let first : at zeros k ≡ at (zerosOf dc low (a .m)) k =
+    below-four (λ i. at zeros i ≡ at (zerosOf dc low (a .m)) i) (back (t1 .t11 .given) ∙ sym (zero-at dc low [] (a .m) 0 (omega arith))) (back (t2 .t15 .given) ∙ ap (at low) (omega arith) ∙ sym (zero-at dc low [] (a .m) 1 (omega arith)))
+    (back (t3 .t20 .given) ∙ sym (zero-at dc low [] (a .m) 2 (omega arith))) (back (t4 .t25 .given) ∙ sym (zero-at dc low [] (a .m) 3 (omega arith))) k few in (
+      omega (arith, few),
+      blocks-fetched (blockOf dc low (a .high .now)) (a .m) (a .b) k (s .pre .1 .0) few (λ j h. e .0 j h ∙ block-of dc low (a .high .now) (a .m) k j (kept (at zeros k)) (omega (arith, few)) (omega arith) (back (d .before .before .fetch-block-arg .given) ∙ first)) (e .1) (v .1),
+      kept-then (v .2) (kept-as 0 2 (16 * a .b) (16 * a .b + 16) (omega arith) (omega arith) (omega arith) (omega (arith, few)) (e .1)),
+    )
+
+same-length : tie.Need-same-length Inv-loop μ-loop
+same-length c = c .before .loop .inv .2 .len
+
+returns : tie.Need-returns Inv-loop μ-loop
+returns c = let l = c .before in (λ i j h g. l .loop .inv .1 i j (omega arith) g, l .loop .inv .2)
+
+pub fetch-macroblock-spec : {M : Type 1} → statement M
+fetch-macroblock-spec =
+    tie.close
+    (tie.spec Inv-loop μ-loop (λ c. omega arith) (λ c. omega arith) (λ c. omega arith) (λ c. omega arith) (λ c. omega arith) (λ c. omega arith) (λ c. omega arith) (λ c. omega arith) (λ c. omega arith) (λ c. omega arith) (λ c. omega arith) (λ c. omega arith) (λ c. omega arith) loop-holds (λ c. omega arith) (λ c. search needs) (λ c. omega arith) (λ c. omega arith) (λ c. omega arith) (λ c. omega arith) (λ c. omega arith) (λ c. omega arith) fetch-block-requires (λ c. omega arith) (λ c. omega arith) loop-again same-length returns)

@@ -1,0 +1,34 @@
+-- Blocks of level two, in place: which coefficients each block has, and the squares that hold them after their core transforms.
+use Prim.Native.Nat.{ℕ, _+_, _*_, _/_, _≤_, _<_}
+use mathlib.Core.Path.{_≡_}
+use mathlib.Core.List.{List}
+use lib.ListN.{length}
+use lib.IntN.{ℤ}
+use Rattle.lifting.specs.Program.{at, get, run}
+use Rattle.figures.specs.Figures.{core}
+use Rattle.picture.specs.Level.{square}
+use Rattle.picture.specs.Planes.{table, coefficients, blockOrder}
+use Rattle.lanes.specs.Lanes.{Outside}
+use Rattle.inverse_levels.specs.Filled.{Filled}
+
+-- the coefficients of each block of a picture W macroblocks wide: the number that level one left at its place, and its high-pass numbers
+abbrev pub blockNumbers : ℕ → List ℤ → List ℤ → ℕ → ℕ → ℤ
+blockNumbers W view high b = coefficients (at view b) (λ k. at high (15 * blockOrder W b + k))
+
+-- coefficients after the core transform
+abbrev pub cored : (ℕ → ℕ → ℤ) → ℕ → ℕ → ℤ
+cored f b = at (run core (table 16 (f b)))
+
+-- block b lies in the rows of blocks from y to below e
+abbrev pub InRows : ℕ → ℕ → ℕ → ℕ → Type 0
+InRows W y e b = (y ≤ b / (4 * W)) × (b / (4 * W) < e)
+
+-- in the samples v of a picture W macroblocks wide, those rows of blocks hold the core transforms of their coefficients, and the rest is the old
+abbrev pub RowsCored : ℕ → List ℤ → List ℤ → ℕ → ℕ → List ℤ → Type 0
+RowsCored W high old y e v = Filled (4 * W) (cored (blockNumbers W old high)) old (InRows W y e) v
+
+-- four blocks b to b + 3 side by side, whose high-pass numbers stand from `from` on: their squares, the first at `first`, hold their core transforms
+pub record FourBlocks (old high : List ℤ) (w first b from : ℕ) (v : List ℤ) : Type 0 where
+  pub len : length v ≡ length old
+  pub own : (l : ℕ) → l < 4 → get (square w (first + 4 * l)) v ≡ run core (table 16 (coefficients (at old (b + l)) (λ k. at high (from + 15 * l + k))))
+  pub rest : (i : ℕ) → Outside w first i → at v i ≡ at old i

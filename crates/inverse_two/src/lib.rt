@@ -1,0 +1,104 @@
+// Level two of the inverse transform, in place: from the numbers that level one left and the high-pass plane to samples.
+mod four_blocks; // four_blocks.rt: four blocks side by side, filled and transformed
+
+ghost use mathlib.Core.Path.{_≡_};
+ghost use Prim.Native.Nat.{_+_, _*_, _<_, _≤_};
+ghost use lib.ListN.{length, take};
+ghost use Rattle.lifting.specs.Program.{run};
+ghost use Rattle.picture.specs.Level.{level};
+ghost use Rattle.picture.specs.Planes.{secondGrid};
+ghost use Rattle.picture.specs.Sizes.{macroblocks, Sized};
+ghost use Rattle.inverse_two.specs.Blocks.{RowsCored};
+use crate::four_blocks::four_blocks;
+use inverse_levels::edges_if;
+use inverse_levels::windows_if;
+use picture::counts::Macroblocks;
+use picture::size::Size;
+
+// Row r of the macroblocks, which is not the topmost: from the last number of its part of the high-pass plane to the first.
+fn macroblock_row(samples: &mut [i32], width: Macroblocks, r: usize, high: &[i32])
+    requires { ⌜ (0 < width .0) × (width .0 ≤ 525) × (0 < r) × (r < 413) ⌝ }
+    requires { ⌜ 256 * (r * width .0 + width .0) ≤ length (now samples) ⌝ }
+    requires { ⌜ 240 * (r * width .0 + width .0) ≤ length (now high) ⌝ }
+    ensures { λ o. ⌜ RowsCored (width .0) (now (high .entry)) (now (samples .entry)) (4 * r) (4 * r + 4) (now (samples .exit)) ⌝ }
+{
+    let p = width.0 as usize;
+    let w = 4 * (4 * p);
+    let first = 240 * (r * p);
+    let mut k = 4 * p;
+    while 0 < k {
+        k -= 1;
+        let y = 4 * r + k % 4;
+        let c = k / 4;
+        four_blocks(
+            samples,
+            w,
+            4 * y * w + 16 * c,
+            y * (4 * p) + 4 * c,
+            high,
+            first + 60 * k,
+        );
+    }
+}
+
+// Row y of the blocks, in the topmost row of macroblocks, from the last block to the first.
+fn block_row(samples: &mut [i32], width: Macroblocks, y: usize, high: &[i32])
+    requires { ⌜ (0 < width .0) × (width .0 ≤ 525) × (y < 4) ⌝ }
+    requires { ⌜ 256 * width .0 ≤ length (now samples) ⌝ }
+    requires { ⌜ 240 * width .0 ≤ length (now high) ⌝ }
+    ensures { λ o. ⌜ RowsCored (width .0) (now (high .entry)) (now (samples .entry)) y (y + 1) (now (samples .exit)) ⌝ }
+{
+    let p = width.0 as usize;
+    let w = 4 * (4 * p);
+    let mut c = p;
+    while 0 < c {
+        c -= 1;
+        four_blocks(
+            samples,
+            w,
+            4 * y * w + 16 * c,
+            y * (4 * p) + 4 * c,
+            high,
+            240 * c + 60 * y,
+        );
+    }
+}
+
+// The topmost row of macroblocks. Its numbers from level one lie in the first row of samples, which its first blocks cover:
+// row of blocks by row of blocks, from the last to the first, none is overwritten before it is read.
+fn top_row(samples: &mut [i32], width: Macroblocks, high: &[i32])
+    requires { ⌜ (0 < width .0) × (width .0 ≤ 525) ⌝ }
+    requires { ⌜ 256 * width .0 ≤ length (now samples) ⌝ }
+    requires { ⌜ 240 * width .0 ≤ length (now high) ⌝ }
+    ensures { λ o. ⌜ RowsCored (width .0) (now (high .entry)) (now (samples .entry)) 0 4 (now (samples .exit)) ⌝ }
+{
+    let mut y = 4;
+    while 0 < y {
+        y -= 1;
+        block_row(samples, width, y, high);
+    }
+}
+
+// The numbers that level one left stand at the front, and go with the high-pass numbers to their blocks' squares, row of macroblocks by row of macroblocks from the last.
+// The windows between rows of blocks run as soon as both rows are transformed, while they are in the cache: in the last row of macroblocks three rows of windows, in the others four.
+pub fn level_two(samples: &mut [i32], filtered: bool, size: Size, high: &[i32])
+    requires { ⌜ Sized size ⌝ }
+    requires { ⌜ length (now samples) ≡ 256 * macroblocks size ⌝ }
+    requires { ⌜ length (now high) ≡ 240 * macroblocks size ⌝ }
+    ensures { λ o. ⌜ now (samples .exit) ≡
+        run (level filtered (4 * size .width .0) (4 * size .height .0)) (secondGrid (size .width .0) (size .height .0) (take (16 * macroblocks size) (now (samples .entry))) (now (high .entry))) ⌝ }
+{
+    let across = 4 * (size.width.0 as usize);
+    let down = 4 * (size.height.0 as usize);
+    let mut r = size.height.0 as usize;
+    let mut windows = 3;
+    while 1 < r {
+        r -= 1;
+        macroblock_row(samples, size.width, r, high);
+        windows_if(samples, filtered, across, down, 4 * r, windows);
+        windows = 4;
+    }
+    top_row(samples, size.width, high);
+    windows_if(samples, filtered, across, down, 0, windows);
+    edges_if(samples, filtered, across, down);
+}
