@@ -1,4 +1,4 @@
-/* lapped.h: the C interface of liblapped.a, the proved lapped transform of JPEG XR.
+/* lapped.h: the C interface of liblapped.a, the proved lapped transform of JPEG XR (x86-64 Linux).
  *
  * A picture is width x height macroblocks and n is their product. A macroblock is 4 x 4 blocks, a
  * block is 4 x 4 samples. All numbers are signed 32-bit, any value:
@@ -10,29 +10,13 @@
  *   samples          256 n, raster order over the whole picture
  *   quarter view     16 n, raster order
  *
- * Mode 0 filters no level, mode 1 the level of the samples, mode 2 both levels.
- *
  * Every length is in elements of its pointer (numbers, or bytes). A pointer is not null and is
  * aligned for its type, even where its length is 0; what is written overlaps nothing else that
  * is lent.
  *
- * The answers. Each call checks in the order given beside it and answers the first that fails.
- * A call that refuses has changed nothing.
- *
- *    0  done
- *    1  the mode is above 2
- *    2  the width is not 1 to 525
- *    3  the height is not 1 to 413
- *    4  the DC plane is not n long
- *    5  the low-pass plane is not 15 n long
- *    6  the high-pass plane is not 240 n long
- *    7  the samples are not 256 n long
- *    8  the view is not 16 n long
- *    9  a file of fewer than 32 bytes
- *   10  the last word of the file's header is not zero
- *   11  an offset or the total in the header is not as laid down
- *   12  the bytes are not exactly as many as the file's total, 32 + 1024 n
- *   13  more than 16 macroblocks (only the program `samples` answers this)
+ * Each call makes the checks whose numbers stand beside it, in that order, and answers the first
+ * that fails, or 0. A call that refuses has changed nothing. No call keeps anything: calls may run
+ * side by side, as long as none writes what another is lent.
  */
 #ifndef LAPPED_H
 #define LAPPED_H
@@ -40,14 +24,53 @@
 #include <stddef.h>
 #include <stdint.h>
 
+#define LAPPED_VERSION_MAJOR 0
+#define LAPPED_VERSION_MINOR 1
+#define LAPPED_VERSION_PATCH 0
+/* One number that grows, for #if: 100 is version 0.1.0. */
+#define LAPPED_VERSION \
+    (10000 * LAPPED_VERSION_MAJOR + 100 * LAPPED_VERSION_MINOR + LAPPED_VERSION_PATCH)
+
 #ifdef __cplusplus
 extern "C" {
 #endif
 
-/* The size of a picture, in macroblocks. */
+/* The modes: which levels of the transform run the filters that smooth the seams between blocks. */
+typedef enum {
+    LAPPED_UNFILTERED = 0,   /* none; each macroblock stands alone */
+    LAPPED_SAMPLE_LEVEL = 1, /* the level of the samples */
+    LAPPED_BOTH_LEVELS = 2   /* that one, and the level of the DC and low-pass planes */
+} lapped_mode;
+
+/* The answers. lapped_message, below, has them in words. */
+typedef enum {
+    LAPPED_DONE = 0,
+    LAPPED_REFUSED_MODE = 1,
+    LAPPED_REFUSED_WIDTH = 2,
+    LAPPED_REFUSED_HEIGHT = 3,
+    LAPPED_REFUSED_DC_LENGTH = 4,
+    LAPPED_REFUSED_LOW_PASS_LENGTH = 5,
+    LAPPED_REFUSED_HIGH_PASS_LENGTH = 6,
+    LAPPED_REFUSED_SAMPLES_LENGTH = 7,
+    LAPPED_REFUSED_VIEW_LENGTH = 8,
+    LAPPED_REFUSED_FILE_TOO_SHORT = 9,
+    LAPPED_REFUSED_LAST_WORD = 10,
+    LAPPED_REFUSED_OFFSETS = 11,
+    LAPPED_REFUSED_FILE_LENGTH = 12,
+    LAPPED_REFUSED_TOO_MANY_MACROBLOCKS = 13 /* only the program `samples` answers this */
+} lapped_answer;
+
+/* The size of a picture, in macroblocks: 1 to 525 across and 1 to 413 down. */
 typedef struct {
     uint32_t width, height;
 } lapped_size;
+
+/* The planes, each with how many coefficients of a macroblock it holds. */
+typedef enum {
+    LAPPED_DC = 1,
+    LAPPED_LOW_PASS = 15,
+    LAPPED_HIGH_PASS = 240
+} lapped_plane;
 
 /* What reading a plane file gives: the answer and, if it is 0, the mode and the size; else zeros. */
 typedef struct {
@@ -95,6 +118,52 @@ uint32_t lapped_save(uint32_t mode, lapped_size size,
                      const int32_t *low, size_t low_len,
                      const int32_t *high, size_t high_len,
                      uint8_t *bytes, size_t len);
+
+/* The lengths that the calls ask for. A size outside the limits has some length here, which may
+ * have wrapped; every call refuses the size before it looks at a length. */
+
+static inline size_t lapped_macroblocks(lapped_size size) {
+    return (size_t)size.width * size.height;
+}
+
+static inline size_t lapped_plane_len(lapped_size size, lapped_plane plane) {
+    return (size_t)plane * lapped_macroblocks(size);
+}
+
+static inline size_t lapped_samples_len(lapped_size size) {
+    return 256 * lapped_macroblocks(size);
+}
+
+static inline size_t lapped_view_len(lapped_size size) {
+    return 16 * lapped_macroblocks(size);
+}
+
+/* In bytes. */
+static inline size_t lapped_file_len(lapped_size size) {
+    return 32 + 1024 * lapped_macroblocks(size);
+}
+
+/* An answer in words; never null. */
+static inline const char *lapped_message(uint32_t number) {
+    switch (number) {
+    case LAPPED_DONE: return "done";
+    case LAPPED_REFUSED_MODE: return "the mode is above 2";
+    case LAPPED_REFUSED_WIDTH: return "the width is not 1 to 525 macroblocks";
+    case LAPPED_REFUSED_HEIGHT: return "the height is not 1 to 413 macroblocks";
+    case LAPPED_REFUSED_DC_LENGTH: return "the DC plane is not n long";
+    case LAPPED_REFUSED_LOW_PASS_LENGTH: return "the low-pass plane is not 15 n long";
+    case LAPPED_REFUSED_HIGH_PASS_LENGTH: return "the high-pass plane is not 240 n long";
+    case LAPPED_REFUSED_SAMPLES_LENGTH: return "the samples are not 256 n long";
+    case LAPPED_REFUSED_VIEW_LENGTH: return "the view is not 16 n long";
+    case LAPPED_REFUSED_FILE_TOO_SHORT: return "the file has fewer than 32 bytes";
+    case LAPPED_REFUSED_LAST_WORD: return "the last word of the file's header is not zero";
+    case LAPPED_REFUSED_OFFSETS:
+        return "an offset or the total in the header is not as laid down";
+    case LAPPED_REFUSED_FILE_LENGTH: return "the bytes are not as many as the file's total";
+    case LAPPED_REFUSED_TOO_MANY_MACROBLOCKS: return "the picture has more than 16 macroblocks";
+    default: return "a number that this header does not list";
+    }
+}
 
 #ifdef __cplusplus
 }

@@ -3,7 +3,7 @@
 use crate::measure::{black_box, median_nanoseconds, Job};
 use crate::{split, Picture};
 use jxrlib::{Kernels, SQUARE_CELLS};
-use lapped::Size;
+use lapped::{Mode, Size};
 
 /// Small enough for the nearest cache, large, and one with many edges.
 const SIZES: [(u32, u32); 3] = [(4, 4), (64, 64), (525, 1)];
@@ -18,10 +18,11 @@ struct Counts {
 
 impl Counts {
     /// The core transforms of both levels, and the filters of those that the mode filters.
-    fn of(mode: u32, size: Size) -> Self {
-        let (width, height) = (size.width as usize, size.height as usize);
+    fn of(mode: Mode, size: Size) -> Self {
+        let (width, height) = (size.width() as usize, size.height() as usize);
         let mut counts = Counts { cores: 17 * width * height, squares: 0, fours: 0 };
-        for (blocks, filtered) in [(4, mode >= 1), (1, mode == 2)] {
+        let levels = [(4, mode != Mode::Unfiltered), (1, mode == Mode::BothLevels)];
+        for (blocks, filtered) in levels {
             if filtered {
                 // Filters lie between blocks; along each of the four sides they come in twos.
                 let (across, down) = (blocks * width - 1, blocks * height - 1);
@@ -52,7 +53,7 @@ struct Buffers {
 impl Buffers {
     fn new(width: u32, height: u32) -> Self {
         let picture = Picture::new(width, height);
-        let most = Counts::of(2, picture.size);
+        let most = Counts::of(Mode::BothLevels, picture.size);
         let numbers = picture.planes.chunks_exact(16).cycle().take(most.cores);
         let coefficients: Vec<[i32; 16]> =
             numbers.map(|numbers| numbers.try_into().unwrap()).collect();
@@ -91,7 +92,7 @@ pub fn section() {
 /// The rows of one size: each mode, the filters alone, then each kernel alone.
 fn rows(kernels: &Kernels, buffers: &mut Buffers) {
     let size = buffers.picture.size;
-    let name = format!("{}x{}", size.width, size.height);
+    let name = format!("{}x{}", size.width(), size.height());
     let [none, one, both, core, square, four] = times(kernels, buffers);
     let row = |mode: &str, counts: Counts, proved: f64| {
         let Counts { cores, squares, fours } = counts;
@@ -104,7 +105,7 @@ fn rows(kernels: &Kernels, buffers: &mut Buffers) {
             "jxrlib"
         );
     };
-    let counts = [0, 1, 2].map(|mode| Counts::of(mode, size));
+    let counts = Mode::ALL.map(|mode| Counts::of(mode, size));
     row("0", counts[0], none);
     row("1", counts[1], one);
     row("2", counts[2], both);
@@ -118,11 +119,10 @@ fn rows(kernels: &Kernels, buffers: &mut Buffers) {
 
 /// The nanoseconds of the proved inverse in each mode, and of each kernel for one block.
 fn times(kernels: &Kernels, buffers: &mut Buffers) -> [f64; 6] {
-    let proved = |mode: u32| {
+    let proved = |mode: Mode| {
         move |buffers: &mut Buffers| {
             let Picture { size, n, planes, samples, .. } = &mut buffers.picture;
-            let (dc, low, high) = split(planes, *n);
-            lapped::inverse(mode, *size, dc, low, high, black_box(samples)).unwrap();
+            lapped::inverse(mode, *size, split(planes, *n), black_box(samples)).unwrap();
         }
     };
     let cores = |buffers: &mut Buffers| {
@@ -143,8 +143,10 @@ fn times(kernels: &Kernels, buffers: &mut Buffers) -> [f64; 6] {
             kernels.four_filter_in_place(numbers);
         }
     };
-    let Counts { cores: c, squares: s, fours: f } = Counts::of(2, buffers.picture.size);
-    let jobs: [Job<Buffers>; 6] = [&proved(0), &proved(1), &proved(2), &cores, &squares, &fours];
+    let Counts { cores: c, squares: s, fours: f } =
+        Counts::of(Mode::BothLevels, buffers.picture.size);
+    let [none, one, both] = Mode::ALL.map(proved);
+    let jobs: [Job<Buffers>; 6] = [&none, &one, &both, &cores, &squares, &fours];
     let [none, one, both, core, square, four] = median_nanoseconds(1, buffers, jobs);
     [none, one, both, core / c as f64, square / s as f64, four / f as f64]
 }

@@ -5,9 +5,10 @@
 mod kernels;
 mod measure;
 
-use lapped::Size;
+use lapped::{Mode, Planes, PlanesMut, PlanesRef, Size};
 use measure::{black_box, median_nanoseconds};
-use reference::picture::{inverse_with_scratch, Scratch};
+use reference::picture::{forward_with_scratch, inverse_with_scratch, Scratch};
+use reference::plane_file;
 use reference::random::{Random, Values};
 
 /// Sizes in macroblocks, from one macroblock to the largest picture.
@@ -55,7 +56,7 @@ impl Picture {
         let n = (width * height) as usize;
         let mut random = Random::new(1);
         Picture {
-            size: Size { width, height },
+            size: Size::new(width, height).unwrap(),
             n,
             planes: random.numbers(256 * n, Values::Small),
             samples: random.numbers(256 * n, Values::Small),
@@ -64,14 +65,20 @@ impl Picture {
     }
 
     fn reference_size(&self) -> reference::Size {
-        reference::Size::new(self.size.width, self.size.height)
+        reference::Size::new(self.size.width(), self.size.height())
     }
 }
 
-fn split(planes: &[i32], n: usize) -> (&[i32], &[i32], &[i32]) {
+fn split(planes: &[i32], n: usize) -> PlanesRef<'_> {
     let (dc, rest) = planes.split_at(n);
     let (low, high) = rest.split_at(15 * n);
-    (dc, low, high)
+    PlanesRef { dc, low, high }
+}
+
+fn split_mut(planes: &mut [i32], n: usize) -> PlanesMut<'_> {
+    let (dc, rest) = planes.split_at_mut(n);
+    let (low, high) = rest.split_at_mut(15 * n);
+    PlanesMut { dc, low, high }
 }
 
 fn heading(section: &str) {
@@ -85,22 +92,22 @@ fn heading(section: &str) {
 fn row(section: &str, size: Size, mode: &str, [proved, plain, memcpy]: [f64; 3]) {
     println!(
         "{section:<10} {:>9} {mode:>4} {proved:>8.3} {plain:>8.3} {memcpy:>8.3} {:>13.2} {:>14.2}",
-        format!("{}x{}", size.width, size.height),
+        format!("{}x{}", size.width(), size.height()),
         proved / plain,
         proved / memcpy
     );
 }
 
 /// The table of one direction: a row for each size and mode, then what size costs.
-fn section(name: &str, measure: impl Fn(u32, &mut Picture) -> [f64; 3]) {
+fn section(name: &str, measure: impl Fn(Mode, &mut Picture) -> [f64; 3]) {
     heading(name);
     let mut proved = [[0.0; 3]; SIZES.len()];
     for (i, (width, height)) in SIZES.into_iter().enumerate() {
         let mut picture = Picture::new(width, height);
-        for mode in 0..=2 {
+        for (j, mode) in Mode::ALL.into_iter().enumerate() {
             let times = measure(mode, &mut picture);
-            row(name, picture.size, &mode.to_string(), times);
-            proved[i][mode as usize] = times[0];
+            row(name, picture.size, &mode.number().to_string(), times);
+            proved[i][j] = times[0];
         }
     }
     let growth = [0, 1, 2].map(|mode| format!("{:.2}", proved[3][mode] / proved[2][mode]));
@@ -111,14 +118,13 @@ fn inverse_section() {
     section("inverse", |mode, picture| {
         let proved = |picture: &mut Picture| {
             let Picture { size, n, planes, samples, .. } = picture;
-            let (dc, low, high) = split(planes, *n);
-            lapped::inverse(mode, *size, dc, low, high, black_box(samples)).unwrap();
+            lapped::inverse(mode, *size, split(planes, *n), black_box(samples)).unwrap();
         };
         let plain = |picture: &mut Picture| {
             let size = picture.reference_size();
             let Picture { n, planes, samples, scratch, .. } = picture;
-            let (dc, low, high) = split(planes, *n);
-            inverse_with_scratch(mode, size, dc, low, high, black_box(samples), scratch);
+            let PlanesRef { dc, low, high } = split(planes, *n);
+            inverse_with_scratch(mode.number(), size, dc, low, high, black_box(samples), scratch);
         };
         let memcpy = |picture: &mut Picture| {
             black_box(&mut picture.samples).copy_from_slice(black_box(&picture.planes));
@@ -131,27 +137,17 @@ fn inverse_section() {
     });
 }
 
-#[cfg(feature = "forward")]
 fn forward_section() {
-    use reference::picture::forward_with_scratch;
-
-    fn split_mut(planes: &mut [i32], n: usize) -> (&mut [i32], &mut [i32], &mut [i32]) {
-        let (dc, rest) = planes.split_at_mut(n);
-        let (low, high) = rest.split_at_mut(15 * n);
-        (dc, low, high)
-    }
-
     section("forward", |mode, picture| {
         let proved = |picture: &mut Picture| {
             let Picture { size, n, planes, samples, .. } = picture;
-            let (dc, low, high) = split_mut(black_box(planes), *n);
-            lapped::forward(mode, *size, samples, dc, low, high).unwrap();
+            lapped::forward(mode, *size, samples, split_mut(black_box(planes), *n)).unwrap();
         };
         let plain = |picture: &mut Picture| {
             let size = picture.reference_size();
             let Picture { n, planes, samples, scratch, .. } = picture;
-            let (dc, low, high) = split_mut(black_box(planes), *n);
-            forward_with_scratch(mode, size, samples, dc, low, high, scratch);
+            let PlanesMut { dc, low, high } = split_mut(black_box(planes), *n);
+            forward_with_scratch(mode.number(), size, samples, dc, low, high, scratch);
         };
         let memcpy = |picture: &mut Picture| {
             black_box(&mut picture.planes).copy_from_slice(black_box(&picture.samples));
@@ -164,60 +160,46 @@ fn forward_section() {
     });
 }
 
-#[cfg(not(feature = "forward"))]
-fn forward_section() {
-    println!("\nforward: left out, built without the feature `forward`");
+/// Planes, a file of them, and memory of the same length for the copy.
+struct File {
+    planes: Planes,
+    bytes: Vec<u8>,
+    copy: Vec<u8>,
 }
 
-#[cfg(feature = "plane_file")]
 fn file_section() {
-    use reference::plane_file;
-
-    /// Planes, a file of them, and memory of the same length for the copy.
-    struct File {
-        dc: Vec<i32>,
-        low: Vec<i32>,
-        high: Vec<i32>,
-        bytes: Vec<u8>,
-        copy: Vec<u8>,
-    }
-
     let (width, height) = SIZES[3];
-    let size = Size { width, height };
-    let n = (width * height) as usize;
+    let size = Size::new(width, height).unwrap();
+    let plain_size = reference::Size::new(width, height);
     let mut random = Random::new(2);
-    let [dc, low, high] = [n, 15 * n, 240 * n].map(|count| random.numbers(count, Values::Small));
-    let [bytes, copy] = [1, 2].map(|byte| vec![byte; 32 + 1024 * n]);
-    let mut file = File { dc, low, high, bytes, copy };
+    let mut planes = Planes::zeroed(size);
+    for plane in [&mut planes.dc, &mut planes.low, &mut planes.high] {
+        *plane = random.numbers(plane.len(), Values::Small);
+    }
+    let [bytes, copy] = [1, 2].map(|byte| vec![byte; size.file_bytes()]);
+    let mut file = File { planes, bytes, copy };
 
     let save = |file: &mut File| {
-        let File { dc, low, high, bytes, .. } = file;
-        lapped::save(1, size, dc, low, high, black_box(bytes)).unwrap();
+        let File { planes, bytes, .. } = file;
+        lapped::save(Mode::SampleLevel, size, planes.as_ref(), black_box(bytes)).unwrap();
     };
     let plain_save = |file: &mut File| {
-        let File { dc, low, high, bytes, .. } = file;
-        let size = reference::Size::new(width, height);
-        plane_file::save(1, size, dc, low, high, black_box(bytes)).unwrap();
+        let File { planes: Planes { dc, low, high, .. }, bytes, .. } = file;
+        plane_file::save(1, plain_size, dc, low, high, black_box(bytes)).unwrap();
     };
     let load = |file: &mut File| {
-        let File { dc, low, high, bytes, .. } = file;
-        lapped::load(black_box(bytes), dc, low, high).unwrap();
+        lapped::load(black_box(&file.bytes), file.planes.as_mut()).unwrap();
     };
     let plain_load = |file: &mut File| {
-        let File { dc, low, high, bytes, .. } = file;
+        let File { planes: Planes { dc, low, high, .. }, bytes, .. } = file;
         plane_file::load(black_box(bytes), dc, low, high).unwrap();
     };
     let memcpy = |file: &mut File| {
         black_box(&mut file.copy).copy_from_slice(black_box(&file.bytes));
     };
     heading("file");
-    let times = median_nanoseconds(256 * n, &mut file, [&save, &plain_save, &memcpy]);
+    let times = median_nanoseconds(size.samples(), &mut file, [&save, &plain_save, &memcpy]);
     row("save", size, "", times);
-    let times = median_nanoseconds(256 * n, &mut file, [&load, &plain_load, &memcpy]);
+    let times = median_nanoseconds(size.samples(), &mut file, [&load, &plain_load, &memcpy]);
     row("load", size, "", times);
-}
-
-#[cfg(not(feature = "plane_file"))]
-fn file_section() {
-    println!("\nload and save: left out, built without the feature `plane_file`");
 }

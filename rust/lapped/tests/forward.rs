@@ -1,26 +1,19 @@
 //! The forward call against the reference, and round trips both ways.
-#![cfg(feature = "forward")]
 
 mod common;
 use common::*;
+use lapped::{Mode, Size};
 use reference::random::{Random, Values};
 
 /// Calls the library on lent memory, and checks that it only wrote the planes.
-fn forward(mode: u32, size: lapped::Size, samples: &[i32], random: &mut Random) -> [Vec<i32>; 3] {
+fn forward(mode: Mode, size: Size, samples: &[i32], random: &mut Random) -> [Vec<i32>; 3] {
     let n = samples.len() / 256;
     let samples = lend_numbers(random, samples);
-    let [mut dc, mut low, mut high] = [n, 15 * n, 240 * n].map(|count| lend_filled(random, count));
-    let answer = lapped::forward(
-        mode,
-        size,
-        samples.slice(),
-        dc.slice_mut(),
-        low.slice_mut(),
-        high.slice_mut(),
-    );
-    assert_eq!(number(answer), Ok(()), "mode {mode}, {size:?}");
+    let mut planes = [n, 15 * n, 240 * n].map(|count| lend_filled(random, count));
+    let answer = lapped::forward(mode, size, samples.slice(), lent_mut(&mut planes));
+    assert_eq!(answer, Ok(()), "{mode:?}, {size:?}");
     samples.assert_unchanged("samples");
-    [dc, low, high].map(|plane| {
+    planes.map(|plane| {
         let result = plane.slice().to_vec();
         plane.assert_holds(&result, "a plane");
         result
@@ -33,13 +26,13 @@ fn assert_planes(found: &[Vec<i32>; 3], expected: &[Vec<i32>; 3], what: &str) {
     }
 }
 
-fn assert_agrees(mode: u32, size: lapped::Size, samples: &[i32], random: &mut Random) {
+fn assert_agrees(mode: Mode, size: Size, samples: &[i32], random: &mut Random) {
     let n = samples.len() / 256;
     let mut expected = [vec![0; n], vec![0; 15 * n], vec![0; 240 * n]];
     let [dc, low, high] = &mut expected;
-    reference::forward(mode, reference_size(size), samples, dc, low, high).unwrap();
+    reference::forward(mode.number(), reference_size(size), samples, dc, low, high).unwrap();
     let planes = forward(mode, size, samples, random);
-    assert_planes(&planes, &expected, &format!("mode {mode}, {size:?}"));
+    assert_planes(&planes, &expected, &format!("{mode:?}, {size:?}"));
 }
 
 #[test]
@@ -48,9 +41,9 @@ fn random_pictures_and_round_trips() {
     for (width, height) in SHAPES {
         let shape = size(width, height);
         let n = (width * height) as usize;
-        for mode in 0..=2 {
+        for mode in Mode::ALL {
             for values in Values::ALL {
-                let what = format!("mode {mode}, {shape:?}, {values:?}");
+                let what = format!("{mode:?}, {shape:?}, {values:?}");
                 let samples = random.numbers(256 * n, values);
                 assert_agrees(mode, shape, &samples, &mut random);
 
@@ -71,15 +64,13 @@ fn random_pictures_and_round_trips() {
 fn largest_picture() {
     let mut random = Random::new(22);
     let samples = random.numbers(256 * 525 * 413, Values::Wild);
-    assert_agrees(2, size(525, 413), &samples, &mut random);
+    assert_agrees(Mode::BothLevels, size(525, 413), &samples, &mut random);
 }
 
 const FORWARD: Operation<4> = Operation {
     checks: &[1, 2, 3, 7, 4, 5, 6],
     lent: [7, 4, 5, 6],
-    library: |mode, size, [samples, dc, low, high], _| {
-        lapped::forward(mode, size, samples, dc, low, high)
-    },
+    library: |mode, size, slices, _| raw::forward(mode, size, slices),
     reference: |mode, size, [samples, dc, low, high], _| {
         reference::forward(mode, size, samples, dc, low, high)
     },

@@ -2,16 +2,16 @@
 
 mod common;
 use common::*;
+use lapped::{Mode, Size};
 use reference::random::{Random, Values};
 
 /// Calls the library on lent memory, and checks that it only wrote the samples.
-fn inverse(mode: u32, size: lapped::Size, planes: &[Vec<i32>; 3], random: &mut Random) -> Vec<i32> {
-    let [dc, low, high] = lend_planes(random, planes);
-    let mut samples = lend_filled(random, 256 * planes[0].len());
-    let answer =
-        lapped::inverse(mode, size, dc.slice(), low.slice(), high.slice(), samples.slice_mut());
-    assert_eq!(number(answer), Ok(()), "mode {mode}, {size:?}");
-    for plane in [dc, low, high] {
+fn inverse(mode: Mode, size: Size, planes: &[Vec<i32>; 3], random: &mut Random) -> Vec<i32> {
+    let lent = lend_planes(random, planes);
+    let mut samples = lend_filled(random, size.samples());
+    let answer = lapped::inverse(mode, size, lent_ref(&lent), samples.slice_mut());
+    assert_eq!(answer, Ok(()), "{mode:?}, {size:?}");
+    for plane in lent {
         plane.assert_unchanged("a plane");
     }
     let result = samples.slice().to_vec();
@@ -19,18 +19,18 @@ fn inverse(mode: u32, size: lapped::Size, planes: &[Vec<i32>; 3], random: &mut R
     result
 }
 
-fn assert_agrees(mode: u32, size: lapped::Size, planes: &[Vec<i32>; 3], random: &mut Random) {
+fn assert_agrees(mode: Mode, size: Size, planes: &[Vec<i32>; 3], random: &mut Random) {
     let [dc, low, high] = planes;
     let mut expected = vec![0; 256 * dc.len()];
-    reference::inverse(mode, reference_size(size), dc, low, high, &mut expected).unwrap();
+    reference::inverse(mode.number(), reference_size(size), dc, low, high, &mut expected).unwrap();
     let samples = inverse(mode, size, planes, random);
-    assert_same(&samples, &expected, &format!("mode {mode}, {size:?}"));
+    assert_same(&samples, &expected, &format!("{mode:?}, {size:?}"));
 }
 
 #[test]
 fn dc_one_gives_nine_ones() {
     let planes = [vec![1], vec![0; 15], vec![0; 240]];
-    let samples = inverse(0, size(1, 1), &planes, &mut Random::new(1));
+    let samples = inverse(Mode::Unfiltered, size(1, 1), &planes, &mut Random::new(1));
     let mut expected = [[0; 16]; 16];
     for (block_row, block_column) in [(0, 1), (1, 0), (1, 1)] {
         for (row, column) in [(0, 1), (1, 0), (1, 1)] {
@@ -43,14 +43,18 @@ fn dc_one_gives_nine_ones() {
 #[test]
 fn dc_64_gives_fours() {
     let planes = [vec![64], vec![0; 15], vec![0; 240]];
-    assert_same(&inverse(0, size(1, 1), &planes, &mut Random::new(1)), &[4; 256], "samples");
+    assert_same(
+        &inverse(Mode::Unfiltered, size(1, 1), &planes, &mut Random::new(1)),
+        &[4; 256],
+        "samples",
+    );
 }
 
 #[test]
 fn random_pictures() {
     let mut random = Random::new(3);
     for (width, height) in SHAPES {
-        for mode in 0..=2 {
+        for mode in Mode::ALL {
             for values in Values::ALL {
                 let n = (width * height) as usize;
                 let planes = random_planes(&mut random, n, values);
@@ -66,7 +70,7 @@ fn sparse_pictures() {
     let mut random = Random::new(4);
     for (width, height) in [(1, 1), (1, 3), (3, 1), (3, 3)] {
         let n = (width * height) as usize;
-        for mode in 0..=2 {
+        for mode in Mode::ALL {
             for _ in 0..100 {
                 let mut planes = [vec![0; n], vec![0; 15 * n], vec![0; 240 * n]];
                 for plane in &mut planes {
@@ -83,15 +87,13 @@ fn sparse_pictures() {
 fn largest_picture() {
     let mut random = Random::new(5);
     let planes = random_planes(&mut random, 525 * 413, Values::Wild);
-    assert_agrees(2, size(525, 413), &planes, &mut random);
+    assert_agrees(Mode::BothLevels, size(525, 413), &planes, &mut random);
 }
 
 const INVERSE: Operation<4> = Operation {
     checks: &[1, 2, 3, 4, 5, 6, 7],
     lent: [4, 5, 6, 7],
-    library: |mode, size, [dc, low, high, samples], _| {
-        lapped::inverse(mode, size, dc, low, high, samples)
-    },
+    library: |mode, size, slices, _| raw::inverse(mode, size, slices),
     reference: |mode, size, [dc, low, high, samples], _| {
         reference::inverse(mode, size, dc, low, high, samples)
     },
@@ -106,6 +108,6 @@ fn every_set_of_faults() {
 fn limits_with_matching_lengths() {
     let mut random = Random::new(7);
     INVERSE.assert_refuses_outside_the_limits(&mut random);
-    let arguments = Arguments::sound(2, size(526, 414));
+    let arguments = Arguments::fitting(2, 526, 414);
     INVERSE.assert_refuses(arguments, 2, "one beyond the largest picture", &mut random);
 }

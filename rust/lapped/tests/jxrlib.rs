@@ -6,6 +6,7 @@
 mod common;
 use common::*;
 use jxrlib::Kernels;
+use lapped::{Mode, Size};
 use reference::level::Grid;
 use reference::operators::{inverse, Block};
 use reference::random::{Random, Values};
@@ -67,7 +68,7 @@ fn filters_of_the_reference(kernels: &Kernels) {
 }
 
 /// Runs a comparison on planes of small and of large numbers, in pictures of several shapes.
-fn for_random_planes(seed: u64, compare: impl Fn(lapped::Size, &[Vec<i32>; 3], &str)) {
+fn for_random_planes(seed: u64, compare: impl Fn(Size, &[Vec<i32>; 3], &str)) {
     let mut random = Random::new(seed);
     for (width, height) in [(1, 1), (1, 2), (2, 1), (2, 2), (3, 5), (1, 9), (9, 1), (13, 11)] {
         for bits in [1, 3, 8, 14, 20] {
@@ -86,10 +87,10 @@ fn block(first: i32, rest: &[i32]) -> Block {
 /// Mode 0 filters nothing: the quarter view is the core transforms of DC and low-pass numbers.
 fn core_transform_of_level_one(kernels: &Kernels) {
     for_random_planes(72, |size, planes, what| {
-        let mut view = view_of(0, size, planes);
+        let mut view = view_of(Mode::Unfiltered, size, planes);
         let [dc, low, _] = planes;
-        let width = size.width as usize;
-        let grid = Grid::new(4 * width, 4 * size.height as usize, &mut view);
+        let width = size.width() as usize;
+        let grid = Grid::new(size.view_across(), size.view_down(), &mut view);
         for (i, rest) in low.chunks_exact(15).enumerate() {
             let expected = kernels.core(block(dc[i], rest));
             assert_same(&grid.square(4 * (i / width), 4 * (i % width)), &expected, what);
@@ -100,10 +101,10 @@ fn core_transform_of_level_one(kernels: &Kernels) {
 /// … and the samples are the core transforms of the view's numbers and the high-pass numbers.
 fn core_transform_of_level_two(kernels: &Kernels) {
     for_random_planes(73, |size, planes, what| {
-        let view = view_of(0, size, planes);
-        let mut samples = samples_of(0, size, planes);
-        let width = size.width as usize;
-        let grid = Grid::new(16 * width, 16 * size.height as usize, &mut samples);
+        let view = view_of(Mode::Unfiltered, size, planes);
+        let mut samples = samples_of(Mode::Unfiltered, size, planes);
+        let width = size.width() as usize;
+        let grid = Grid::new(size.samples_across(), size.samples_down(), &mut samples);
         for (i, rest) in planes[2].chunks_exact(15).enumerate() {
             let (macroblock, block_in_it) = (i / 16, i % 16);
             let row = 4 * (macroblock / width) + block_in_it / 4;
@@ -115,25 +116,25 @@ fn core_transform_of_level_two(kernels: &Kernels) {
 }
 
 /// Filters a grid in place by jxrlib's kernels, in the windows of a level.
-fn filter(kernels: &Kernels, width: u32, height: u32, cells: &mut [i32]) {
-    Grid::new(width as usize, height as usize, cells)
+fn filter(kernels: &Kernels, width: usize, height: usize, cells: &mut [i32]) {
+    Grid::new(width, height, cells)
         .filter(|square| kernels.square_filter(square), |four| kernels.four_filter(four));
 }
 
 /// Mode 2 differs from mode 0 in the quarter view by the filters alone.
 fn filters_of_level_one(kernels: &Kernels) {
     for_random_planes(74, |size, planes, what| {
-        let mut expected = view_of(0, size, planes);
-        filter(kernels, 4 * size.width, 4 * size.height, &mut expected);
-        assert_same(&view_of(2, size, planes), &expected, what);
+        let mut expected = view_of(Mode::Unfiltered, size, planes);
+        filter(kernels, size.view_across(), size.view_down(), &mut expected);
+        assert_same(&view_of(Mode::BothLevels, size, planes), &expected, what);
     });
 }
 
 /// Mode 1 differs from mode 0 in the samples by the filters alone.
 fn filters_of_level_two(kernels: &Kernels) {
     for_random_planes(75, |size, planes, what| {
-        let mut expected = samples_of(0, size, planes);
-        filter(kernels, 16 * size.width, 16 * size.height, &mut expected);
-        assert_same(&samples_of(1, size, planes), &expected, what);
+        let mut expected = samples_of(Mode::Unfiltered, size, planes);
+        filter(kernels, size.samples_across(), size.samples_down(), &mut expected);
+        assert_same(&samples_of(Mode::SampleLevel, size, planes), &expected, what);
     });
 }

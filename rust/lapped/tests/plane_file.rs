@@ -1,16 +1,16 @@
 //! Header, load and save against the reference and the layout of 01.
-#![cfg(feature = "plane_file")]
 
 mod common;
 use common::*;
-use lapped::ffi;
+use lapped::{Header, Mode, PlaneFile, Planes, PlanesMut, Refusal};
+use lapped_sys::{lapped_header, lapped_size};
 use reference::random::{Random, Values};
 
 const SOUND_SHAPES: [(u32, u32); 8] =
     [(1, 1), (1, 2), (2, 1), (2, 3), (7, 1), (1, 413), (525, 1), (11, 13)];
 
 /// The layout of 01, written out byte by byte.
-fn file(mode: u32, size: lapped::Size, planes: &[Vec<i32>; 3]) -> Vec<u8> {
+fn file(mode: u32, size: lapped_size, planes: &[Vec<i32>; 3]) -> Vec<u8> {
     let n = size.width * size.height;
     let words = [mode, size.width, size.height, 32, 32 + 4 * n, 32 + 64 * n, 32 + 1024 * n, 0];
     let numbers = planes.iter().flatten().map(|&number| number as u32);
@@ -21,38 +21,17 @@ fn word(bytes: &[u8], index: usize) -> u32 {
     u32::from_le_bytes(bytes[4 * index..4 * index + 4].try_into().unwrap())
 }
 
-/// The C call itself, for the figures beside the number, which a refusal leaves zero.
-fn read_header(bytes: &[u8]) -> ffi::Header {
-    unsafe { ffi::lapped_read_header(bytes.as_ptr(), bytes.len()) }
-}
-
-fn load(bytes: &[u8], planes: &mut [Lent<i32>; 3]) -> ffi::Header {
-    let [dc, low, high] = slices(planes);
-    unsafe {
-        ffi::lapped_load(
-            bytes.as_ptr(),
-            bytes.len(),
-            dc.as_mut_ptr(),
-            dc.len(),
-            low.as_mut_ptr(),
-            low.len(),
-            high.as_mut_ptr(),
-            high.len(),
-        )
-    }
-}
-
-fn refused(number: u32) -> ffi::Header {
-    ffi::Header { number, mode: 0, size: size(0, 0) }
+fn refused(number: u32) -> lapped_header {
+    lapped_header { number, mode: 0, size: raw_size(0, 0) }
 }
 
 /// What the reference says of a header, in the form of the C interface.
-fn reference_header(answer: Result<reference::plane_file::Header, u32>) -> ffi::Header {
+fn reference_header(answer: Result<reference::plane_file::Header, u32>) -> lapped_header {
     match answer {
-        Ok(header) => ffi::Header {
+        Ok(header) => lapped_header {
             number: 0,
             mode: header.mode,
-            size: size(header.size.width, header.size.height),
+            size: raw_size(header.size.width, header.size.height),
         },
         Err(number) => refused(number),
     }
@@ -61,7 +40,7 @@ fn reference_header(answer: Result<reference::plane_file::Header, u32>) -> ffi::
 /// Header and load refuse this file with `expected` and change nothing, whatever planes are lent.
 fn assert_file_refused(bytes: &[u8], expected: u32, what: &str, random: &mut Random) {
     let bytes = lend_bytes(random, bytes);
-    assert_eq!(read_header(bytes.slice()), refused(expected), "header: {what}");
+    assert_eq!(raw::read_header(bytes.slice()), refused(expected), "header: {what}");
     // Planes right for the file's own size where that is small, and now and then wrong ones.
     let n = match bytes.slice().len() {
         0..=31 => 1,
@@ -69,7 +48,7 @@ fn assert_file_refused(bytes: &[u8], expected: u32, what: &str, random: &mut Ran
     };
     let n = if n > 1000 || random.below(4) == 0 { random.below(5) } else { n };
     let mut planes = [n, 15 * n, 240 * n].map(|count| lend_filled(random, count));
-    assert_eq!(load(bytes.slice(), &mut planes), refused(expected), "load: {what}");
+    assert_eq!(raw::load(bytes.slice(), slices(&mut planes)), refused(expected), "load: {what}");
     for plane in &planes {
         plane.assert_unchanged(what);
     }
@@ -80,27 +59,27 @@ fn assert_file_refused(bytes: &[u8], expected: u32, what: &str, random: &mut Ran
 
 fn assert_file_sound(
     bytes: &[u8],
-    header: ffi::Header,
+    header: lapped_header,
     expected: &[Vec<i32>; 3],
     random: &mut Random,
 ) {
     let what = format!("{header:?}");
     let bytes = lend_bytes(random, bytes);
-    assert_eq!(read_header(bytes.slice()), header);
+    assert_eq!(raw::read_header(bytes.slice()), header);
     let mut planes = [0, 1, 2].map(|i| lend_filled(random, expected[i].len()));
-    assert_eq!(load(bytes.slice(), &mut planes), header);
+    assert_eq!(raw::load(bytes.slice(), slices(&mut planes)), header);
     for (plane, expected) in planes.iter().zip(expected) {
         plane.assert_holds(expected, &what);
     }
     bytes.assert_unchanged(&what);
 }
 
-fn save(mode: u32, size: lapped::Size, planes: &[Vec<i32>; 3], random: &mut Random) -> Vec<u8> {
-    let [dc, low, high] = lend_planes(random, planes);
+fn save(mode: u32, size: lapped_size, planes: &[Vec<i32>; 3], random: &mut Random) -> Vec<u8> {
+    let mut lent = lend_planes(random, planes);
     let mut bytes = lend_filled_bytes(random, 32 + 1024 * planes[0].len());
-    let answer = lapped::save(mode, size, dc.slice(), low.slice(), high.slice(), bytes.slice_mut());
-    assert_eq!(number(answer), Ok(()), "mode {mode}, {size:?}");
-    for plane in [dc, low, high] {
+    let answer = raw::save(mode, size, slices(&mut lent), bytes.slice_mut());
+    assert_eq!(answer, 0, "mode {mode}, {size:?}");
+    for plane in lent {
         plane.assert_unchanged("a plane");
     }
     let result = bytes.slice().to_vec();
@@ -114,10 +93,10 @@ fn random_files() {
     for (width, height) in SOUND_SHAPES {
         for mode in 0..=2 {
             for values in Values::ALL {
-                let shape = size(width, height);
+                let shape = raw_size(width, height);
                 let planes = random_planes(&mut random, (width * height) as usize, values);
                 let bytes = file(mode, shape, &planes);
-                let header = ffi::Header { number: 0, mode, size: shape };
+                let header = lapped_header { number: 0, mode, size: shape };
                 assert_file_sound(&bytes, header, &planes, &mut random);
                 let saved = save(mode, shape, &planes, &mut random);
                 assert_same(&saved, &bytes, &format!("file of mode {mode}, {shape:?}"));
@@ -125,7 +104,7 @@ fn random_files() {
                 // The reference and the layout above were written apart.
                 let mut by_reference = vec![0; bytes.len()];
                 let [dc, low, high] = &planes;
-                let shape = reference_size(shape);
+                let shape = reference::Size::new(width, height);
                 reference::plane_file::save(mode, shape, dc, low, high, &mut by_reference).unwrap();
                 assert_same(&by_reference, &bytes, "the reference's file");
             }
@@ -133,28 +112,40 @@ fn random_files() {
     }
 }
 
+/// The safe calls give the mode, the size and the planes, and the names of the numbers.
 #[test]
 fn safe_calls_give_what_the_c_calls_give() {
     let mut random = Random::new(42);
     let planes = random_planes(&mut random, 6, Values::Wild);
-    let mut bytes = file(1, size(2, 3), &planes);
-    let header = lapped::Header { mode: 1, size: size(2, 3) };
+    let shape = size(2, 3);
+    let mut bytes = file(1, raw_size(2, 3), &planes);
+    let header = Header { mode: Mode::SampleLevel, size: shape };
     assert_eq!(lapped::read_header(&bytes), Ok(header));
-    let [mut dc, mut low, mut high] = [6, 15 * 6, 240 * 6].map(|count| vec![0; count]);
-    assert_eq!(lapped::load(&bytes, &mut dc, &mut low, &mut high), Ok(header));
-    assert_eq!([dc, low, high], planes);
+    let mut loaded = Planes::zeroed(shape);
+    assert_eq!(lapped::load(&bytes, loaded.as_mut()), Ok(header));
+    assert_eq!(loaded.as_ref(), planes_ref(&planes));
+
+    let mut saved = vec![0; shape.file_bytes()];
+    lapped::save(Mode::SampleLevel, shape, loaded.as_ref(), &mut saved).unwrap();
+    assert_eq!(saved, bytes);
+    let owned = PlaneFile { mode: Mode::SampleLevel, planes: loaded };
+    assert_eq!(owned.to_bytes().as_ref(), Ok(&bytes));
+    assert_eq!(PlaneFile::from_bytes(&bytes), Ok(owned));
+
     set_word(&mut bytes, 7, 1);
-    assert_eq!(number(lapped::read_header(&bytes)), Err(10));
-    assert_eq!(number(lapped::load(&bytes, &mut [], &mut [], &mut [])), Err(10));
+    assert_eq!(lapped::read_header(&bytes), Err(Refusal::LastWord));
+    let nothing = PlanesMut { dc: &mut [], low: &mut [], high: &mut [] };
+    assert_eq!(lapped::load(&bytes, nothing), Err(Refusal::LastWord));
+    assert_eq!(PlaneFile::from_bytes(&bytes), Err(Refusal::LastWord));
 }
 
 #[test]
 fn largest_file() {
     let mut random = Random::new(43);
-    let shape = size(525, 413);
+    let shape = raw_size(525, 413);
     let planes = random_planes(&mut random, 525 * 413, Values::Wild);
     let bytes = file(2, shape, &planes);
-    let header = ffi::Header { number: 0, mode: 2, size: shape };
+    let header = lapped_header { number: 0, mode: 2, size: shape };
     assert_file_sound(&bytes, header, &planes, &mut random);
     assert_same(&save(2, shape, &planes, &mut random), &bytes, "largest file");
     assert_file_refused(&bytes[..bytes.len() - 1], 12, "largest file cut by one byte", &mut random);
@@ -164,7 +155,7 @@ fn largest_file() {
 fn every_length_near_the_right_one() {
     let mut random = Random::new(44);
     for (width, height) in [(1, 1), (2, 1), (3, 4)] {
-        let shape = size(width, height);
+        let shape = raw_size(width, height);
         let planes = random_planes(&mut random, (width * height) as usize, Values::Wild);
         let sound = file(1, shape, &planes);
         let longer = [&sound[..], &random.bytes(80)].concat();
@@ -173,7 +164,7 @@ fn every_length_near_the_right_one() {
             let what = format!("{length} bytes of {}", sound.len());
             let bytes = &longer[..length];
             if length == sound.len() {
-                let header = ffi::Header { number: 0, mode: 1, size: shape };
+                let header = lapped_header { number: 0, mode: 1, size: shape };
                 assert_file_sound(bytes, header, &planes, &mut random);
             } else {
                 let expected = if length < 32 { 9 } else { 12 };
@@ -196,7 +187,7 @@ fn damaged(old: u32, random: &mut Random) -> Vec<u32> {
 fn each_header_word_damaged_in_turn() {
     let mut random = Random::new(45);
     for (mode, width, height) in [(0, 1, 1), (1, 3, 2), (2, 2, 5)] {
-        let shape = size(width, height);
+        let shape = raw_size(width, height);
         let planes = random_planes(&mut random, (width * height) as usize, Values::Wild);
         let sound = file(mode, shape, &planes);
         for index in 0..8 {
@@ -210,7 +201,7 @@ fn each_header_word_damaged_in_turn() {
                     2 if !(1..=413).contains(&damage) => 3,
                     // Another mode is as good as the old one.
                     0 => {
-                        let header = ffi::Header { number: 0, mode: damage, size: shape };
+                        let header = lapped_header { number: 0, mode: damage, size: shape };
                         assert_file_sound(&bytes, header, &planes, &mut random);
                         continue;
                     }
@@ -281,7 +272,7 @@ fn assert_load_refused(
 ) {
     let bytes = lend_bytes(random, bytes);
     let mut planes = [4, 5, 6].map(|number| lend_filled(random, arguments.length(number)));
-    assert_eq!(load(bytes.slice(), &mut planes), refused(expected), "{what}");
+    assert_eq!(raw::load(bytes.slice(), slices(&mut planes)), refused(expected), "{what}");
     bytes.assert_unchanged(what);
     for plane in &planes {
         plane.assert_unchanged(what);
@@ -296,8 +287,8 @@ fn every_set_of_faults_of_load() {
     let mut random = Random::new(47);
     for (numbers, first) in faults(&[9, 1, 2, 3, 10, 11, 12, 4, 5, 6]) {
         let what = format!("faults {numbers:?}");
-        let shape = size(1 + random.below(3) as u32, 1 + random.below(3) as u32);
-        let mut arguments = Arguments::sound(random.below(3) as u32, shape);
+        let shape = raw_size(1 + random.below(3) as u32, 1 + random.below(3) as u32);
+        let mut arguments = Arguments::fitting(random.below(3) as u32, shape.width, shape.height);
         let planes = random_planes(&mut random, arguments.length(4), Values::Wild);
         let mut bytes = file(arguments.mode, shape, &planes);
         // The file is cut last, since a word can only be damaged while it is there.
@@ -313,10 +304,10 @@ fn every_set_of_faults_of_load() {
         }
         // The header knows nothing of the planes.
         let header = match first {
-            4..=6 => ffi::Header { number: 0, mode: arguments.mode, size: shape },
+            4..=6 => lapped_header { number: 0, mode: arguments.mode, size: shape },
             _ => refused(first),
         };
-        assert_eq!(read_header(&bytes), header, "{what}");
+        assert_eq!(raw::read_header(&bytes), header, "{what}");
         assert_load_refused(&bytes, arguments, first, &what, &mut random);
     }
 }
@@ -325,7 +316,7 @@ fn every_set_of_faults_of_load() {
 fn load_into_planes_of_every_wrong_length() {
     let mut random = Random::new(51);
     for (width, height) in [(1, 1), (2, 3)] {
-        let sound = Arguments::sound(1, size(width, height));
+        let sound = Arguments::fitting(1, width, height);
         let planes = random_planes(&mut random, sound.length(4), Values::Wild);
         let bytes = file(sound.mode, sound.size, &planes);
         for number in [4, 5, 6] {
@@ -340,7 +331,7 @@ fn load_into_planes_of_every_wrong_length() {
 const SAVE: Operation<3> = Operation {
     checks: &[1, 2, 3, 4, 5, 6, 12],
     lent: [4, 5, 6],
-    library: |mode, size, [dc, low, high], bytes| lapped::save(mode, size, dc, low, high, bytes),
+    library: raw::save,
     reference: |mode, size, [dc, low, high], bytes| {
         reference::plane_file::save(mode, size, dc, low, high, bytes)
     },
@@ -361,12 +352,13 @@ fn limits_of_save_with_matching_lengths() {
 fn save_into_every_length_near_the_right_one() {
     let mut random = Random::new(49);
     let planes = random_planes(&mut random, 2, Values::Wild);
-    let [dc, low, high] = &planes;
+    let shape = size(2, 1);
     let right = 32 + 1024 * 2;
     for length in (0..40).chain(right - 40..right).chain(right + 1..right + 40) {
         let mut bytes = lend_filled_bytes(&mut random, length);
-        let answer = lapped::save(0, size(2, 1), dc, low, high, bytes.slice_mut());
-        assert_eq!(number(answer), Err(12), "{length} bytes");
+        let planes = planes_ref(&planes);
+        let answer = lapped::save(Mode::Unfiltered, shape, planes, bytes.slice_mut());
+        assert_eq!(answer, Err(Refusal::FileLength), "{length} bytes");
         bytes.assert_unchanged(&format!("{length} bytes"));
     }
 }
@@ -384,6 +376,6 @@ fn random_bytes() {
             set_word(&mut bytes, index, word);
         }
         let expected = reference_header(reference::plane_file::read_header(&bytes));
-        assert_eq!(read_header(&bytes), expected);
+        assert_eq!(raw::read_header(&bytes), expected);
     }
 }

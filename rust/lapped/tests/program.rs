@@ -1,5 +1,4 @@
 //! The program `samples`, run on plane files, against the reference's text.
-#![cfg(feature = "program")]
 
 mod common;
 use common::set_word;

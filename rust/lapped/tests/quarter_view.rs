@@ -2,27 +2,28 @@
 
 mod common;
 use common::*;
+use lapped::{Mode, PlanesRef};
 use reference::random::{Random, Values};
 
 #[test]
 fn random_pictures() {
     let mut random = Random::new(11);
     for (width, height) in SHAPES.into_iter().chain([(525, 413)]) {
-        for mode in 0..=2 {
+        for mode in Mode::ALL {
             for values in Values::ALL {
                 let shape = size(width, height);
-                let what = format!("mode {mode}, {shape:?}, {values:?}");
+                let what = format!("{mode:?}, {shape:?}, {values:?}");
                 let n = (width * height) as usize;
                 let [dc, low] = [n, 15 * n].map(|count| random.numbers(count, values));
                 let mut expected = vec![0; 16 * n];
-                reference::quarter_view(mode, reference_size(shape), &dc, &low, &mut expected)
-                    .unwrap();
+                let (number, size) = (mode.number(), reference_size(shape));
+                reference::quarter_view(number, size, &dc, &low, &mut expected).unwrap();
 
                 let [dc, low] = [dc, low].map(|plane| lend_numbers(&mut random, &plane));
                 let mut view = lend_filled(&mut random, 16 * n);
-                let answer =
-                    lapped::quarter_view(mode, shape, dc.slice(), low.slice(), view.slice_mut());
-                assert_eq!(number(answer), Ok(()), "{what}");
+                let planes = PlanesRef { dc: dc.slice(), low: low.slice(), high: &[] };
+                let answer = lapped::quarter_view(mode, shape, planes, view.slice_mut());
+                assert_eq!(answer, Ok(()), "{what}");
                 view.assert_holds(&expected, &what);
                 dc.assert_unchanged(&what);
                 low.assert_unchanged(&what);
@@ -34,7 +35,7 @@ fn random_pictures() {
 const QUARTER_VIEW: Operation<3> = Operation {
     checks: &[1, 2, 3, 4, 5, 8],
     lent: [4, 5, 8],
-    library: |mode, size, [dc, low, view], _| lapped::quarter_view(mode, size, dc, low, view),
+    library: |mode, size, slices, _| raw::quarter(mode, size, slices),
     reference: |mode, size, [dc, low, view], _| reference::quarter_view(mode, size, dc, low, view),
 };
 

@@ -2,6 +2,7 @@
 
 mod common;
 use common::*;
+use lapped::{Mode, Size};
 use reference::random::{Random, Values};
 
 /// Samples `first_row` to `end_row` - 1 and `first_column` to `end_column` - 1, not yet clipped.
@@ -31,21 +32,21 @@ impl Window {
 }
 
 /// The window of one high-pass number, by its place in the plane of a picture `width` wide.
-fn high_pass_window(mode: u32, width: usize, place: usize) -> Window {
+fn high_pass_window(mode: Mode, width: usize, place: usize) -> Window {
     let (macroblock, block) = (place / 240, place / 15 % 16);
     let row = 16 * (macroblock / width) + 4 * (block / 4);
     let column = 16 * (macroblock % width) + 4 * (block % 4);
-    Window::around(row as i32, column as i32, 4, [0, 2, 2][mode as usize])
+    Window::around(row as i32, column as i32, 4, [0, 2, 2][mode.number() as usize])
 }
 
 /// The window of the DC and low-pass numbers of one macroblock.
-fn macroblock_window(mode: u32, width: usize, macroblock: usize) -> Window {
+fn macroblock_window(mode: Mode, width: usize, macroblock: usize) -> Window {
     let (row, column) = (16 * (macroblock / width), 16 * (macroblock % width));
-    Window::around(row as i32, column as i32, 16, [0, 2, 10][mode as usize])
+    Window::around(row as i32, column as i32, 16, [0, 2, 10][mode.number() as usize])
 }
 
 /// Changes one number of the planes; gives the window that 01 allows the change.
-fn change_one(mode: u32, width: usize, planes: &mut [Vec<i32>; 3], random: &mut Random) -> Window {
+fn change_one(mode: Mode, width: usize, planes: &mut [Vec<i32>; 3], random: &mut Random) -> Window {
     // The three planes alike, though the high-pass plane holds most of the numbers.
     let plane = random.below(3);
     let place = random.below(planes[plane].len());
@@ -66,8 +67,8 @@ fn change_one(mode: u32, width: usize, planes: &mut [Vec<i32>; 3], random: &mut 
 }
 
 /// The (row, column) of each sample that differs. Never empty: the inverse loses nothing.
-fn differences(size: lapped::Size, one: &[i32], other: &[i32]) -> Vec<(i32, i32)> {
-    let width = 16 * size.width as usize;
+fn differences(size: Size, one: &[i32], other: &[i32]) -> Vec<(i32, i32)> {
+    let width = size.samples_across();
     let places: Vec<(i32, i32)> = (0..one.len())
         .filter(|&i| one[i] != other[i])
         .map(|i| ((i / width) as i32, (i % width) as i32))
@@ -93,7 +94,7 @@ fn a_single_change_stays_in_its_window() {
     let mut random = Random::new(31);
     for (width, height) in SHAPES {
         let n = (width * height) as usize;
-        for mode in 0..=2 {
+        for mode in Mode::ALL {
             for values in Values::ALL {
                 for _ in 0..60 {
                     let mut planes = random_planes(&mut random, n, values);
@@ -101,7 +102,7 @@ fn a_single_change_stays_in_its_window() {
                     let window = change_one(mode, width as usize, &mut planes, &mut random);
                     let after = samples_of(mode, size(width, height), &planes);
                     let places = differences(size(width, height), &before, &after);
-                    assert_inside(&places, &[window], &format!("mode {mode}, {width} x {height}"));
+                    assert_inside(&places, &[window], &format!("{mode:?}, {width} x {height}"));
                 }
             }
         }
@@ -113,7 +114,7 @@ fn several_changes_stay_in_their_windows_together() {
     let mut random = Random::new(32);
     for (width, height) in SHAPES {
         let n = (width * height) as usize;
-        for mode in 0..=2 {
+        for mode in Mode::ALL {
             for _ in 0..40 {
                 let mut planes = random_planes(&mut random, n, Values::Wild);
                 let before = samples_of(mode, size(width, height), &planes);
@@ -126,7 +127,7 @@ fn several_changes_stay_in_their_windows_together() {
                 }
                 let after = samples_of(mode, size(width, height), &planes);
                 let places = differences(size(width, height), &before, &after);
-                assert_inside(&places, &windows, &format!("mode {mode}, {width} x {height}"));
+                assert_inside(&places, &windows, &format!("{mode:?}, {width} x {height}"));
             }
         }
     }
@@ -139,7 +140,7 @@ fn the_windows_are_no_wider_than_needed() {
     let mut random = Random::new(33);
     let shape = size(3, 3);
     let middle = 4;
-    for mode in 0..=2 {
+    for mode in Mode::ALL {
         for (plane, place) in [(0, middle), (1, 15 * middle + 3), (2, 240 * middle + 15 * 5 + 3)] {
             let window = match plane {
                 2 => high_pass_window(mode, 3, place),
@@ -158,7 +159,7 @@ fn the_windows_are_no_wider_than_needed() {
                     reached[3] |= column == window.end_column - 1;
                 }
             }
-            assert_eq!(reached, [true; 4], "mode {mode}, plane {plane}, {window:?}");
+            assert_eq!(reached, [true; 4], "{mode:?}, plane {plane}, {window:?}");
         }
     }
 }

@@ -1,6 +1,10 @@
 //! What the tests share: shapes, lent memory with guard cells, faulty arguments and their refusal.
 #![allow(dead_code)] // Each test file is a crate of its own and uses a part of this.
 
+pub mod raw;
+
+use lapped::{Mode, PlanesMut, PlanesRef, Size};
+use lapped_sys::lapped_size;
 use reference::random::{Random, Values};
 use std::fmt::Debug;
 
@@ -25,33 +29,37 @@ pub const SHAPES: [(u32, u32); 17] = [
     (1, 413),
 ];
 
-pub fn size(width: u32, height: u32) -> lapped::Size {
-    lapped::Size { width, height }
+pub fn size(width: u32, height: u32) -> Size {
+    Size::new(width, height).unwrap()
+}
+
+/// A size for the C interface, which may be any.
+pub fn raw_size(width: u32, height: u32) -> lapped_size {
+    lapped_size { width, height }
 }
 
 /// The same size for the reference.
-pub fn reference_size(size: lapped::Size) -> reference::Size {
-    reference::Size::new(size.width, size.height)
+pub fn reference_size(size: Size) -> reference::Size {
+    reference::Size::new(size.width(), size.height())
 }
 
-/// An answer of the library in the form of the reference's: the number of 01 where it refuses.
-pub fn number<T>(answer: Result<T, lapped::Refusal>) -> Result<T, u32> {
-    answer.map_err(lapped::Refusal::number)
+/// Planes in a test's own form, lent to a call that reads them.
+pub fn planes_ref(planes: &[Vec<i32>; 3]) -> PlanesRef<'_> {
+    let [dc, low, high] = planes;
+    PlanesRef { dc, low, high }
 }
 
 /// The samples that the library gives for these planes.
-pub fn samples_of(mode: u32, size: lapped::Size, planes: &[Vec<i32>; 3]) -> Vec<i32> {
-    let [dc, low, high] = planes;
-    let mut samples = vec![0; 256 * dc.len()];
-    lapped::inverse(mode, size, dc, low, high, &mut samples).unwrap();
+pub fn samples_of(mode: Mode, size: Size, planes: &[Vec<i32>; 3]) -> Vec<i32> {
+    let mut samples = vec![0; size.samples()];
+    lapped::inverse(mode, size, planes_ref(planes), &mut samples).unwrap();
     samples
 }
 
 /// The quarter view that the library gives for these planes.
-pub fn view_of(mode: u32, size: lapped::Size, planes: &[Vec<i32>; 3]) -> Vec<i32> {
-    let [dc, low, _] = planes;
-    let mut view = vec![0; 16 * dc.len()];
-    lapped::quarter_view(mode, size, dc, low, &mut view).unwrap();
+pub fn view_of(mode: Mode, size: Size, planes: &[Vec<i32>; 3]) -> Vec<i32> {
+    let mut view = vec![0; size.view_samples()];
+    lapped::quarter_view(mode, size, planes_ref(planes), &mut view).unwrap();
     view
 }
 
@@ -141,6 +149,18 @@ pub fn lend_planes(random: &mut Random, planes: &[Vec<i32>; 3]) -> [Lent<i32>; 3
     [0, 1, 2].map(|i| lend_numbers(random, &planes[i]))
 }
 
+/// Lent planes for a call that reads them.
+pub fn lent_ref(lent: &[Lent<i32>; 3]) -> PlanesRef<'_> {
+    let [dc, low, high] = lent;
+    PlanesRef { dc: dc.slice(), low: low.slice(), high: high.slice() }
+}
+
+/// Lent planes for a call that writes them.
+pub fn lent_mut(lent: &mut [Lent<i32>; 3]) -> PlanesMut<'_> {
+    let [dc, low, high] = slices(lent);
+    PlanesMut { dc, low, high }
+}
+
 /// Puts a word into the header of a plane file.
 pub fn set_word(bytes: &mut [u8], index: usize, word: u32) {
     bytes[4 * index..4 * index + 4].copy_from_slice(&word.to_le_bytes());
@@ -150,7 +170,7 @@ pub fn set_word(bytes: &mut [u8], index: usize, word: u32) {
 #[derive(Clone, Copy, Debug)]
 pub struct Arguments {
     pub mode: u32,
-    pub size: lapped::Size,
+    pub size: lapped_size,
     /// The lengths of what the numbers 4, 5, 6, 7, 8 and 12 are about, in this order.
     lengths: [usize; 6],
 }
@@ -158,7 +178,9 @@ pub struct Arguments {
 const LENGTH_NUMBERS: [u32; 6] = [4, 5, 6, 7, 8, 12];
 
 impl Arguments {
-    pub fn sound(mode: u32, size: lapped::Size) -> Self {
+    /// Lengths that fit the size; the mode and the size may be any.
+    pub fn fitting(mode: u32, width: u32, height: u32) -> Self {
+        let size = raw_size(width, height);
         let n = size.width as usize * size.height as usize;
         let lengths = [n, 15 * n, 240 * n, 256 * n, 16 * n, 32 + 1024 * n];
         Arguments { mode, size, lengths }
@@ -230,8 +252,8 @@ pub fn refused_arguments(
     let mut refused = Vec::new();
     for (numbers, first) in faults(order) {
         for _ in 0..4 {
-            let shape = size(1 + random.below(3) as u32, 1 + random.below(3) as u32);
-            let mut broken = vec![Arguments::sound(random.below(3) as u32, shape)];
+            let [mode, width, height] = [0, 1, 1].map(|least| least + random.below(3) as u32);
+            let mut broken = vec![Arguments::fitting(mode, width, height)];
             for &number in &numbers {
                 broken = any(random, &broken).broken(number);
             }
@@ -246,18 +268,17 @@ pub fn refused_arguments(
     refused
 }
 
-/// A call with mode, size, slices of numbers and bytes.
-type Call<Size, Refusal, const N: usize> =
-    fn(u32, Size, [&mut [i32]; N], &mut [u8]) -> Result<(), Refusal>;
+/// A call with a mode and a size, slices of numbers, and bytes.
+type Call<Size, Answer, const N: usize> = fn(u32, Size, [&mut [i32]; N], &mut [u8]) -> Answer;
 
-/// A call of the library and the reference's, with what is lent to them.
+/// A call of the C interface and the reference's, with what is lent to them.
 pub struct Operation<const N: usize> {
     /// The numbers of the checks, in the order of 01.
     pub checks: &'static [u32],
     /// The slices of numbers, by the checks of their lengths. Bytes are lent where 12 is a check.
     pub lent: [u32; N],
-    pub library: Call<lapped::Size, lapped::Refusal, N>,
-    pub reference: Call<reference::Size, u32, N>,
+    pub library: Call<lapped_size, u32, N>,
+    pub reference: Call<reference::Size, Result<(), u32>, N>,
 }
 
 impl<const N: usize> Operation<N> {
@@ -274,12 +295,12 @@ impl<const N: usize> Operation<N> {
         let count = if self.checks.contains(&12) { arguments.length(12) } else { 0 };
         let mut bytes = lend_filled_bytes(random, count);
         let answer = (self.library)(mode, size, slices(&mut numbers), bytes.slice_mut());
-        assert_eq!(number(answer), Err(expected), "{what}");
+        assert_eq!(answer, expected, "{what}");
         for lent in &numbers {
             lent.assert_unchanged(what);
         }
         bytes.assert_unchanged(what);
-        let size = reference_size(size);
+        let size = reference::Size::new(size.width, size.height);
         let answer = (self.reference)(mode, size, slices(&mut numbers), bytes.slice_mut());
         assert_eq!(answer, Err(expected), "the reference: {what}");
     }
@@ -292,15 +313,10 @@ impl<const N: usize> Operation<N> {
 
     /// Just outside the limits, with all lengths right for that size.
     pub fn assert_refuses_outside_the_limits(&self, random: &mut Random) {
-        for (mode, shape, expected) in [
-            (0, size(0, 1), 2),
-            (1, size(526, 1), 2),
-            (2, size(1, 0), 3),
-            (0, size(1, 414), 3),
-            (3, size(0, 1), 1),
-            (3, size(1, 1), 1),
-        ] {
-            let arguments = Arguments::sound(mode, shape);
+        for (mode, width, height, expected) in
+            [(0, 0, 1, 2), (1, 526, 1, 2), (2, 1, 0, 3), (0, 1, 414, 3), (3, 0, 1, 1), (3, 1, 1, 1)]
+        {
+            let arguments = Arguments::fitting(mode, width, height);
             self.assert_refuses(arguments, expected, &format!("{arguments:?}"), random);
         }
     }

@@ -1,0 +1,111 @@
+//! The C interface of liblapped.a, item by item as in `include/lapped.h`.
+//!
+//! Nothing is checked or renamed here; the crate `lapped` has safe calls over these. Each function
+//! takes any mode, size and lengths, and answers the number of the first check that fails, 0 if none
+//! does. Each pointer must be non-null and aligned, even where its length is 0, with as many elements
+//! behind it as its length says, and what is written must overlap nothing else that is passed.
+//!
+//! ```
+//! use lapped_sys::{lapped_quarter, lapped_size};
+//!
+//! let size = lapped_size { width: 1, height: 1 };
+//! let (dc, low, mut view) = ([64], [0; 15], [0; 16]);
+//! // SAFETY: each pointer comes with the length of its array, and only `view` is written.
+//! let number = unsafe {
+//!     let (dc, low, view) = (dc.as_ptr(), low.as_ptr(), view.as_mut_ptr());
+//!     lapped_quarter(0, size, dc, 1, low, 15, view, 16)
+//! };
+//! assert_eq!(number, 0);
+//! assert_eq!(view, [16; 16]);
+//! ```
+
+#![no_std]
+#![allow(non_camel_case_types)] // The names are those of the header.
+
+/// The size of a picture, in macroblocks.
+#[repr(C)]
+#[derive(Clone, Copy, Debug, PartialEq, Eq)]
+pub struct lapped_size {
+    pub width: u32,
+    pub height: u32,
+}
+
+/// What reading a plane file gives: the answer and, if it is 0, the mode and the size; else zeros.
+#[repr(C)]
+#[derive(Clone, Copy, Debug, PartialEq, Eq)]
+pub struct lapped_header {
+    pub number: u32,
+    pub mode: u32,
+    pub size: lapped_size,
+}
+
+extern "C" {
+    /// From coefficient planes to samples. Checks 1, 2, 3, 4, 5, 6, 7.
+    pub fn lapped_inverse(
+        mode: u32,
+        size: lapped_size,
+        dc: *const i32,
+        dc_len: usize,
+        low: *const i32,
+        low_len: usize,
+        high: *const i32,
+        high_len: usize,
+        samples: *mut i32,
+        samples_len: usize,
+    ) -> u32;
+
+    /// The quarter-size view, from the DC and low-pass planes alone. Checks 1, 2, 3, 4, 5, 8.
+    pub fn lapped_quarter(
+        mode: u32,
+        size: lapped_size,
+        dc: *const i32,
+        dc_len: usize,
+        low: *const i32,
+        low_len: usize,
+        view: *mut i32,
+        view_len: usize,
+    ) -> u32;
+
+    /// From samples to coefficient planes. Checks 1, 2, 3, 7, 4, 5, 6.
+    pub fn lapped_forward(
+        mode: u32,
+        size: lapped_size,
+        samples: *const i32,
+        samples_len: usize,
+        dc: *mut i32,
+        dc_len: usize,
+        low: *mut i32,
+        low_len: usize,
+        high: *mut i32,
+        high_len: usize,
+    ) -> u32;
+
+    /// The mode and the size of a plane file that is lent whole. Checks 9, 1, 2, 3, 10, 11, 12.
+    pub fn lapped_read_header(bytes: *const u8, len: usize) -> lapped_header;
+
+    /// Fills the planes from a plane file. Checks 9, 1, 2, 3, 10, 11, 12, 4, 5, 6.
+    pub fn lapped_load(
+        bytes: *const u8,
+        len: usize,
+        dc: *mut i32,
+        dc_len: usize,
+        low: *mut i32,
+        low_len: usize,
+        high: *mut i32,
+        high_len: usize,
+    ) -> lapped_header;
+
+    /// Writes a plane file. Checks 1, 2, 3, 4, 5, 6, 12.
+    pub fn lapped_save(
+        mode: u32,
+        size: lapped_size,
+        dc: *const i32,
+        dc_len: usize,
+        low: *const i32,
+        low_len: usize,
+        high: *const i32,
+        high_len: usize,
+        bytes: *mut u8,
+        len: usize,
+    ) -> u32;
+}

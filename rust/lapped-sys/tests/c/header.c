@@ -1,0 +1,63 @@
+/* Prints every value of lapped.h, for the test beside it: C99 and C++ both. */
+#include <lapped.h>
+#include <stdio.h>
+
+static void print_version(void) {
+    printf("version %d.%d.%d is %d\n", LAPPED_VERSION_MAJOR, LAPPED_VERSION_MINOR,
+           LAPPED_VERSION_PATCH, LAPPED_VERSION);
+}
+
+static void print_layout(void) {
+    printf("size %u: %u %u\n", (unsigned)sizeof(lapped_size),
+           (unsigned)offsetof(lapped_size, width), (unsigned)offsetof(lapped_size, height));
+    printf("header %u: %u %u %u\n", (unsigned)sizeof(lapped_header),
+           (unsigned)offsetof(lapped_header, number), (unsigned)offsetof(lapped_header, mode),
+           (unsigned)offsetof(lapped_header, size));
+}
+
+static void print_modes(void) {
+    const lapped_mode modes[] = {LAPPED_UNFILTERED, LAPPED_SAMPLE_LEVEL, LAPPED_BOTH_LEVELS};
+    printf("modes %d %d %d\n", modes[0], modes[1], modes[2]);
+}
+
+static void print_answers(void) {
+    const lapped_answer answers[] = {LAPPED_DONE,
+                                     LAPPED_REFUSED_MODE,
+                                     LAPPED_REFUSED_WIDTH,
+                                     LAPPED_REFUSED_HEIGHT,
+                                     LAPPED_REFUSED_DC_LENGTH,
+                                     LAPPED_REFUSED_LOW_PASS_LENGTH,
+                                     LAPPED_REFUSED_HIGH_PASS_LENGTH,
+                                     LAPPED_REFUSED_SAMPLES_LENGTH,
+                                     LAPPED_REFUSED_VIEW_LENGTH,
+                                     LAPPED_REFUSED_FILE_TOO_SHORT,
+                                     LAPPED_REFUSED_LAST_WORD,
+                                     LAPPED_REFUSED_OFFSETS,
+                                     LAPPED_REFUSED_FILE_LENGTH,
+                                     LAPPED_REFUSED_TOO_MANY_MACROBLOCKS};
+    for (size_t i = 0; i < sizeof answers / sizeof *answers; i++)
+        printf("answer %d: %s\n", answers[i], lapped_message((uint32_t)answers[i]));
+    printf("14: %s\n4294967295: %s\n", lapped_message(14), lapped_message(UINT32_MAX));
+}
+
+static void print_lengths(void) {
+    const lapped_size sizes[] = {{1, 1}, {3, 2}, {525, 413}};
+    for (size_t i = 0; i < sizeof sizes / sizeof *sizes; i++) {
+        const lapped_size size = sizes[i];
+        printf("lengths %lu: %lu %lu %lu, %lu, %lu, %lu\n", (unsigned long)lapped_macroblocks(size),
+               (unsigned long)lapped_plane_len(size, LAPPED_DC),
+               (unsigned long)lapped_plane_len(size, LAPPED_LOW_PASS),
+               (unsigned long)lapped_plane_len(size, LAPPED_HIGH_PASS),
+               (unsigned long)lapped_samples_len(size), (unsigned long)lapped_view_len(size),
+               (unsigned long)lapped_file_len(size));
+    }
+}
+
+int main(void) {
+    print_version();
+    print_layout();
+    print_modes();
+    print_answers();
+    print_lengths();
+    return 0;
+}

@@ -1,0 +1,46 @@
+//! The functions of the C interface on slices, with any mode, size and lengths, and their numbers.
+
+use lapped_sys::{lapped_header, lapped_size};
+
+/// Calls a function with plain arguments, then slices that it reads, then slices that it writes.
+macro_rules! call {
+    ($function:ident($($plain:ident),*); $($read:ident),*; $($written:ident),*) => {
+        // SAFETY: each pointer comes with its slice's length; no slice that is written overlaps another.
+        unsafe {
+            lapped_sys::$function(
+                $($plain,)*
+                $($read.as_ptr(), $read.len(),)*
+                $($written.as_mut_ptr(), $written.len(),)*
+            )
+        }
+    };
+}
+
+pub fn inverse(mode: u32, size: lapped_size, slices: [&mut [i32]; 4]) -> u32 {
+    let [dc, low, high, samples] = slices;
+    call!(lapped_inverse(mode, size); dc, low, high; samples)
+}
+
+pub fn quarter(mode: u32, size: lapped_size, slices: [&mut [i32]; 3]) -> u32 {
+    let [dc, low, view] = slices;
+    call!(lapped_quarter(mode, size); dc, low; view)
+}
+
+pub fn forward(mode: u32, size: lapped_size, slices: [&mut [i32]; 4]) -> u32 {
+    let [samples, dc, low, high] = slices;
+    call!(lapped_forward(mode, size); samples; dc, low, high)
+}
+
+pub fn read_header(bytes: &[u8]) -> lapped_header {
+    call!(lapped_read_header(); bytes;)
+}
+
+pub fn load(bytes: &[u8], planes: [&mut [i32]; 3]) -> lapped_header {
+    let [dc, low, high] = planes;
+    call!(lapped_load(); bytes; dc, low, high)
+}
+
+pub fn save(mode: u32, size: lapped_size, planes: [&mut [i32]; 3], bytes: &mut [u8]) -> u32 {
+    let [dc, low, high] = planes;
+    call!(lapped_save(mode, size); dc, low, high; bytes)
+}

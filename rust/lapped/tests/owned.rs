@@ -1,0 +1,71 @@
+//! The calls that allocate their results, against the reference.
+
+mod common;
+use common::*;
+use lapped::{Mode, PlaneFile, Planes, Refusal};
+use reference::random::{Random, Values};
+
+fn random_owned(random: &mut Random, width: u32, height: u32) -> Planes {
+    let shape = size(width, height);
+    let [dc, low, high] = random_planes(random, shape.macroblocks(), Values::Wild);
+    Planes { size: shape, dc, low, high }
+}
+
+#[test]
+fn results_are_those_of_the_reference() {
+    let mut random = Random::new(91);
+    for (width, height) in [(1, 1), (3, 2), (1, 7)] {
+        for mode in Mode::ALL {
+            let planes = random_owned(&mut random, width, height);
+            let Planes { size, dc, low, high } = &planes;
+            let what = format!("{mode:?}, {size:?}");
+            let (number, plain_size) = (mode.number(), reference_size(*size));
+
+            let mut samples = vec![0; size.samples()];
+            reference::inverse(number, plain_size, dc, low, high, &mut samples).unwrap();
+            assert_same(&planes.to_samples(mode).unwrap(), &samples, &what);
+            assert_eq!(Planes::from_samples(mode, *size, &samples).as_ref(), Ok(&planes), "{what}");
+
+            let mut view = vec![0; size.view_samples()];
+            reference::quarter_view(number, plain_size, dc, low, &mut view).unwrap();
+            assert_same(&planes.to_quarter_view(mode).unwrap(), &view, &what);
+
+            let mut bytes = vec![0; size.file_bytes()];
+            reference::plane_file::save(number, plain_size, dc, low, high, &mut bytes).unwrap();
+            let file = PlaneFile { mode, planes };
+            assert_same(&file.to_bytes().unwrap(), &bytes, &what);
+            assert_same(&file.to_samples().unwrap(), &samples, &what);
+            assert_same(&file.to_quarter_view().unwrap(), &view, &what);
+            assert_eq!(PlaneFile::from_bytes(&bytes), Ok(file), "{what}");
+        }
+    }
+}
+
+/// The fields are open, so lengths may come not to fit; every call says so.
+#[test]
+fn planes_that_do_not_fit_their_size() {
+    let mode = Mode::BothLevels;
+    let sound = Planes::zeroed(size(2, 1));
+    let mut file = PlaneFile { mode, planes: sound.clone() };
+    file.planes.dc.pop();
+    assert_eq!(file.to_samples(), Err(Refusal::DcLength));
+    assert_eq!(file.to_quarter_view(), Err(Refusal::DcLength));
+    assert_eq!(file.to_bytes(), Err(Refusal::DcLength));
+
+    file.planes = sound.clone();
+    file.planes.low.push(0);
+    assert_eq!(file.to_samples(), Err(Refusal::LowPassLength));
+    assert_eq!(file.to_quarter_view(), Err(Refusal::LowPassLength));
+    assert_eq!(file.to_bytes(), Err(Refusal::LowPassLength));
+
+    file.planes = sound;
+    file.planes.size = size(1, 2);
+    assert!(file.to_samples().is_ok(), "as many macroblocks in another shape");
+    file.planes.high.clear();
+    assert_eq!(file.to_samples(), Err(Refusal::HighPassLength));
+    assert!(file.to_quarter_view().is_ok(), "the view asks nothing of the high-pass plane");
+    assert_eq!(file.to_bytes(), Err(Refusal::HighPassLength));
+
+    assert_eq!(Planes::from_samples(mode, size(1, 1), &[0; 257]), Err(Refusal::SamplesLength));
+    assert_eq!(PlaneFile::from_bytes(&[0; 32]), Err(Refusal::Width));
+}

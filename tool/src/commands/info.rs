@@ -1,0 +1,73 @@
+//! `lapped info`: what plane files hold.
+
+use crate::failure::{Failure, Outcome};
+use crate::progress::Progress;
+use crate::{input, output, plane_file};
+use lapped::{Mode, PlaneFile};
+use std::path::{Path, PathBuf};
+
+pub const EXAMPLE: &str = "lapped info examples/disc.planes";
+
+/// Say the mode, the size and the extreme coefficients of plane files
+#[derive(clap::Args)]
+pub struct Args {
+    /// Plane files; `-` is standard input
+    #[arg(value_name = "FILE", required = true)]
+    files: Vec<PathBuf>,
+}
+
+pub fn run(args: &Args, progress: &Progress) -> Result<Outcome, Failure> {
+    input::standard_input_once(&args.files)?;
+    let bar = progress.bar(args.files.len(), "files");
+    let mut outcome = Outcome::Done;
+    for path in &args.files {
+        match plane_file::read(path) {
+            Ok(file) => bar.aside(|| output::report(&report(path, &file)))?,
+            Err(failure) => {
+                bar.aside(|| failure.tell());
+                outcome = Outcome::RefusedOrDifferent;
+            }
+        }
+        bar.one_more();
+    }
+    Ok(outcome)
+}
+
+fn report(path: &Path, file: &PlaneFile) -> String {
+    let planes = &file.planes;
+    let size = planes.size;
+    let mut text = format!(
+        "{}\n  mode       {} ({})\n  \
+         size       {} × {} macroblocks, {} × {} samples\n  bytes      {}\n",
+        path.display(),
+        file.mode.number(),
+        in_words(file.mode),
+        size.width(),
+        size.height(),
+        size.samples_across(),
+        size.samples_down(),
+        size.file_bytes(),
+    );
+    for (band, plane) in
+        [("DC", &planes.dc), ("low-pass", &planes.low), ("high-pass", &planes.high)]
+    {
+        let (smallest, largest) = extremes(plane);
+        text += &format!("  {band:<9}  {smallest} to {largest}\n");
+    }
+    text
+}
+
+fn in_words(mode: Mode) -> &'static str {
+    match mode {
+        Mode::Unfiltered => "no level filtered",
+        Mode::SampleLevel => "the level of the samples filtered",
+        Mode::BothLevels => "both levels filtered",
+    }
+}
+
+/// The smallest and the largest number of a plane; a plane is never empty.
+fn extremes(plane: &[i32]) -> (i32, i32) {
+    plane.iter().fold((i32::MAX, i32::MIN), |(smallest, largest), &number| {
+        (smallest.min(number), largest.max(number))
+    })
+}

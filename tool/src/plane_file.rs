@@ -1,0 +1,40 @@
+//! Plane files, read no further than their header tells.
+
+use crate::failure::Failure;
+use crate::input;
+use lapped::{PlaneFile, Refusal};
+use std::io::{self, Read};
+use std::path::Path;
+
+/// The bytes of a header, and where in it the file's total stands.
+const HEADER: usize = 32;
+const TOTAL: std::ops::Range<usize> = 24..28;
+
+/// The planes of a file. The file's bytes are gone when this returns.
+pub fn read(path: &Path) -> Result<PlaneFile, Failure> {
+    let bytes = input::open(path).and_then(|mut file| bytes(&mut file));
+    from_bytes(path, &bytes.map_err(|error| Failure::system(path, error))?)
+}
+
+/// The planes of a file from its bytes.
+pub fn from_bytes(path: &Path, bytes: &[u8]) -> Result<PlaneFile, Failure> {
+    PlaneFile::from_bytes(bytes).map_err(|refusal| Failure::refused(path, refusal))
+}
+
+/// The bytes of a plane file, at most one more than its header tells: that is enough for the
+/// library to refuse it, and a file without end does not fill the memory.
+pub fn bytes(file: &mut impl Read) -> io::Result<Vec<u8>> {
+    let mut bytes = vec![0; HEADER];
+    let filled = input::fill(file, &mut bytes)?;
+    bytes.truncate(filled);
+    // Of a header without its planes the library says that bytes are missing, if it finds no other
+    // fault.
+    if lapped::read_header(&bytes) == Err(Refusal::FileLength) {
+        let mut total = [0; 4];
+        total.copy_from_slice(&bytes[TOTAL]);
+        bytes.resize(u32::from_le_bytes(total) as usize + 1, 0);
+        let filled = HEADER + input::fill(file, &mut bytes[HEADER..])?;
+        bytes.truncate(filled);
+    }
+    Ok(bytes)
+}
