@@ -8,7 +8,7 @@ use native.Mathlib.Decide.{decLt}
 use native.Mathlib.Numerals.{add-one}
 use native.Mathlib.Nat.{add-mul, mul-le-mul-right}
 use lib.Arith.{digits-div, digits-mod}
-use lib.ListN.{length, set}
+use lib.ListN.{length, set, length-set}
 use lib.Seq.{getD-set-same, getD-set-other}
 use lib.IntN.{ℤ, pos}
 use Rattle.lifting.specs.Program.{at, get, put, undo}
@@ -19,7 +19,7 @@ use Rattle.picture.specs.Planes.{table, coefficients, blockAt}
 use Rattle.picture.proofs.Table.{table-is, table-same}
 use Rattle.forward_kernel.specs.Placed.{Placed, undoneAt}
 use Rattle.forward_kernel.proofs.Stores.{placed-after, four-placed}
-use Rattle.forward_two_cores.specs.Blocks.{zerosOf, blockOf, squareIn, undoneIn, Among, Replaced}
+use Rattle.forward_two_cores.specs.Blocks.{zerosOf, blockOf, squareIn, undoneIn, Among, Replaced, Elsewhere}
 
 -- ---- blocks
 
@@ -123,3 +123,24 @@ module _ {W : ℕ} (wide : 0 < W) (r c : ℕ) (beside : c < W) where
 
   pub macroblock-inside : (H : ℕ) → r < H → (r * W + c < W * H) × (16 * r * (16 * W) + 16 * c + 15 * (16 * W) + 15 < 256 * (W * H))
   macroblock-inside H h = let most : (r + 1) * W ≤ H * W = mul-le-mul-right W (omega arith) in (omega (arith, rw (add-mul r 1 W) at most), omega (arith, rw (add-mul r 1 W) at most))
+
+-- ---- numbers of one macroblock's blocks that are stored and then stored anew
+
+pub nowhere : (i n : ℕ) (v : List ℤ) → Elsewhere i n v v
+nowhere i n v = record { len = refl; below = λ j h. refl; above = λ j h. refl }
+
+pub elsewhere-more : {i n : ℕ} {old v : List ℤ} (j : ℕ) (x : ℤ) → i ≤ j → j < i + n → Elsewhere i n old v → Elsewhere i n old (set v j x)
+elsewhere-more {i} {n} {old} {v} j x a b e = record {
+  len = length-set v j x ∙ e .len;
+  below = λ k h. getD-set-other v j k x (pos 0) (λ z. omega (arith, z)) ∙ e .below k h;
+  above = λ k h. getD-set-other v j k x (pos 0) (λ z. omega (arith, z)) ∙ e .above k h;
+}
+
+pub other-blocks : (dc low : List ℤ) {old new : List ℤ} (m : ℕ) → Elsewhere (240 * m) 240 old new → (t : ℕ) → (t / 16 ≡ m → ⊥) → blockOf dc low new t ≡ blockOf dc low old t
+unfolding blockOf
+other-blocks dc low {old} {new} m e t n = same-block _ _ refl (λ k h. cell k h (decLt t (16 * m)) (decLt t (16 * m + 16)))
+  where
+    cell : (k : ℕ) → k < 15 → Dec (t < 16 * m) → Dec (t < 16 * m + 16) → at new (15 * t + k) ≡ at old (15 * t + k)
+    cell k h (yes a) b = e .below _ (omega arith)
+    cell k h (no a) (yes b) = absurd (n (omega (arith, a)))
+    cell k h (no a) (no b) = e .above _ (omega (arith, b))

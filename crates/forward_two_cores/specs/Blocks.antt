@@ -3,6 +3,7 @@ use Prim.Native.Nat.{ℕ, _+_, _*_, _/_, _%_, _<_, _≤_}
 use mathlib.Core.Path.{_≡_}
 use mathlib.Core.List.{List}
 use lib.IntN.{ℤ}
+use lib.ListN.{length}
 use Rattle.lifting.specs.Program.{at, get}
 use Rattle.picture.specs.Level.{cell, square}
 use Rattle.picture.specs.Planes.{table, coefficients, blockAt}
@@ -32,3 +33,9 @@ Among m n t = (m ≤ t / 16) × (t / 16 < n)
 pub record Replaced (P : ℕ → Type 0) (f old new : ℕ → List ℤ) : Type 0 where
   pub own : (t : ℕ) → P t → new t ≡ f t
   pub others : (t : ℕ) → (P t → ⊥) → new t ≡ old t
+
+-- lists of one length that are the same but for the n numbers from place i on
+pub record Elsewhere (i n : ℕ) (old new : List ℤ) : Type 0 where
+  pub len : length new ≡ length old
+  pub below : (j : ℕ) → j < i → at new j ≡ at old j
+  pub above : (j : ℕ) → i + n ≤ j → at new j ≡ at old j

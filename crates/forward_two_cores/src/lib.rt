@@ -1,13 +1,13 @@
 // The core transforms of level two undone from a grid into the three planes, four blocks at a time: a macroblock, and all of a picture from its samples.
 ghost use mathlib.Core.Path.{_≡_};
-ghost use Prim.Native.Nat.{_+_, _*_, _/_, _%_, _<_};
+ghost use Prim.Native.Nat.{_+_, _*_, _/_, _%_, _<_, _≤_};
 ghost use lib.ListN.{length};
 ghost use Rattle.lifting.specs.Program.{undo};
 ghost use Rattle.figures.specs.Figures.{core};
 ghost use Rattle.picture.specs.Level.{cores};
 ghost use Rattle.picture.specs.Planes.{firstGrid, secondGrid};
 ghost use Rattle.picture.specs.Sizes.{macroblocks, Sized};
-ghost use Rattle.forward_two_cores.specs.Blocks.{zerosOf, blockOf, squareIn, undoneIn, Among, Replaced};
+ghost use Rattle.forward_two_cores.specs.Blocks.{zerosOf, blockOf, squareIn, undoneIn, Among, Replaced, Elsewhere};
 use forward_kernel::undo_four_cores;
 use grid::put_four;
 use picture::size::Size;
@@ -47,6 +47,48 @@ pub fn undo_macroblock(
     put_zeros(dc, low, m, &z);
 }
 
+// How many rows of a macroblock are touched: none in a picture of at most 128 macroblocks across, whose rows stay in the cache.
+fn far_rows(w: usize) -> usize
+    ensures { λ r. ⌜ r ≤ 15 ⌝ }
+{
+    if w > 2048 {
+        return 15;
+    }
+    0
+}
+
+// In a wide picture a macroblock's samples, and its cells in the high-pass plane, are not in the cache. One number of each row and of each line of
+// memory is moved here, so that all are asked for at once, before the first core waits for them. What is stored is stored anew by the cores.
+fn touch(samples: &[i32], w: usize, at: usize, high: &mut [i32], from: usize)
+    requires { ⌜ at + 15 * w + 15 < length (now samples) ⌝ }
+    requires { ⌜ from + 239 < length (now high) ⌝ }
+    ensures { λ u. ⌜ Elsewhere from 240 (now (high .entry)) (now (high .exit)) ⌝ }
+{
+    let rows = far_rows(w);
+    for y in 0..rows {
+        high[from + 16 * y] = samples[at + y * w];
+    }
+}
+
+// The same from the samples of a picture of `w` columns.
+fn undo_macroblock_of(
+    samples: &[i32],
+    w: usize,
+    at: usize,
+    dc: &mut [i32],
+    low: &mut [i32],
+    high: &mut [i32],
+    m: usize,
+)
+    requires { ⌜ at + 15 * w + 15 < length (now samples) ⌝ }
+    requires { ⌜ (m < length (now dc)) × (15 * m + 14 < length (now low)) × (240 * m + 239 < length (now high)) ⌝ }
+    ensures { λ u. ⌜ Replaced (λ t. t / 16 ≡ m) (λ t. undoneIn w at (now (samples .entry)) (t % 16))
+        (blockOf (now (dc .entry)) (now (low .entry)) (now (high .entry))) (blockOf (now (dc .exit)) (now (low .exit)) (now (high .exit))) ⌝ }
+{
+    touch(samples, w, at, high, 240 * m);
+    undo_macroblock(samples, w, at, dc, low, high, m);
+}
+
 // Row r of a picture's macroblocks.
 fn undo_row(
     size: Size,
@@ -66,7 +108,7 @@ fn undo_row(
     let width = across as usize;
     let w = 16 * width;
     for c in 0..width {
-        undo_macroblock(
+        undo_macroblock_of(
             samples,
             w,
             16 * r * w + 16 * c,

@@ -1,6 +1,6 @@
 -- The filters and then the cores, or the cores alone.
 use borrow.Author.Needs.{needs}
-use Rattle.forward_one.proofs.Level.{level-filtered, level-plain}
+use Rattle.forward_kernel.proofs.Level.{level-filtered, level-plain}
 use Rattle.forward_one.proofs.undo_level_one.Statement.{statement}
 use Rattle.forward_one.proofs.undo_level_one.Tie as tie
 

@@ -1,15 +1,18 @@
 -- The filters and then the cores, or the cores alone.
-use Rattle.forward_two.proofs.Levels.{level-filtered, level-plain}
+use mathlib.Core.Path.{refl}
 use borrow.Author.Needs.{needs}
+use Rattle.forward_kernel.proofs.Level.{level-filtered, level-plain}
+use Rattle.forward_two_edges.specs.Unfiltered.{unfiltered}
 use Rattle.forward_two.proofs.undo_level_two.Statement.{statement}
 use Rattle.forward_two.proofs.undo_level_two.Tie as tie
 
 returns : tie.Need-returns
+unfolding unfiltered
 returns c =
     let d = c .before .before .before in
     let t = d .before .before .before .before in
     let a = t .before .args in
-    level-filtered (a .filtered) (a .size) (a .samples .now) (t .if1 .taken) (d .undo-filtered .ensures)
+    level-filtered (a .filtered) _ _ (a .samples .now) (t .if1 .taken) refl (d .undo-filtered .ensures)
 
 returns-2 : tie.Need-returns-2
 returns-2 c =

@@ -43,26 +43,26 @@ loop-holds c = (
       among-as f (c .args .r * W) (c .args .r * W + 0) refl (omega arith) (among-none (c .args .r * W) f old),
 )
 
-mul-undo-macroblock : tie.Need-mul-undo-macroblock Inv-loop μ-loop
-mul-undo-macroblock c = omega (arith, inside c)
+mul-undo-macroblock-of : tie.Need-mul-undo-macroblock-of Inv-loop μ-loop
+mul-undo-macroblock-of c = omega (arith, inside c)
 
-mul-undo-macroblock-2 : tie.Need-mul-undo-macroblock-2 Inv-loop μ-loop
-mul-undo-macroblock-2 c = omega (arith, inside c)
+mul-undo-macroblock-of-2 : tie.Need-mul-undo-macroblock-of-2 Inv-loop μ-loop
+mul-undo-macroblock-of-2 c = omega (arith, inside c)
 
-mul-undo-macroblock-3 : tie.Need-mul-undo-macroblock-3 Inv-loop μ-loop
-mul-undo-macroblock-3 c = omega (arith, inside c)
+mul-undo-macroblock-of-3 : tie.Need-mul-undo-macroblock-of-3 Inv-loop μ-loop
+mul-undo-macroblock-of-3 c = omega (arith, inside c)
 
-add-undo-macroblock : tie.Need-add-undo-macroblock Inv-loop μ-loop
-add-undo-macroblock c = omega (arith, inside c)
+add-undo-macroblock-of : tie.Need-add-undo-macroblock-of Inv-loop μ-loop
+add-undo-macroblock-of c = omega (arith, inside c)
 
-mul-undo-macroblock-4 : tie.Need-mul-undo-macroblock-4 Inv-loop μ-loop
-mul-undo-macroblock-4 c = omega (arith, inside (c .before .before .before))
+mul-undo-macroblock-of-4 : tie.Need-mul-undo-macroblock-of-4 Inv-loop μ-loop
+mul-undo-macroblock-of-4 c = omega (arith, inside (c .before .before .before))
 
-add-undo-macroblock-2 : tie.Need-add-undo-macroblock-2 Inv-loop μ-loop
-add-undo-macroblock-2 c = omega (arith, inside (c .before .before .before))
+add-undo-macroblock-of-2 : tie.Need-add-undo-macroblock-of-2 Inv-loop μ-loop
+add-undo-macroblock-of-2 c = omega (arith, inside (c .before .before .before))
 
-undo-macroblock-requires : tie.Need-undo-macroblock-requires Inv-loop μ-loop
-undo-macroblock-requires c κs = let d = c .before .before .before in let s = d .before .before in (omega (arith, inside d, s .pre .1 .0), (omega (arith, inside d, s .pre .1 .1), omega (arith, inside d, s .pre .1 .1), omega (arith, inside d, s .pre .1 .1)))
+undo-macroblock-of-requires : tie.Need-undo-macroblock-of-requires Inv-loop μ-loop
+undo-macroblock-of-requires c κs = let d = c .before .before .before in let s = d .before .before in (omega (arith, inside d, s .pre .1 .0), (omega (arith, inside d, s .pre .1 .1), omega (arith, inside d, s .pre .1 .1), omega (arith, inside d, s .pre .1 .1)))
 
 loop-again : tie.Need-loop-again Inv-loop μ-loop
 loop-again c =
@@ -74,7 +74,7 @@ loop-again c =
     let r = s .args .r in
     let samples = s .args .samples .now in
     let f : ℕ → List ℤ = λ t. undo core (squareIn W samples t) in
-    let one = among-one f (r * W + l .loop .c) (replaced-as (λ t e. sample-square (s .pre .0 .0 .wide) r (l .loop .c) (omega arith) samples t e) (d .undo-macroblock .ensures)) in
+    let one = among-one f (r * W + l .loop .c) (replaced-as (λ t e. sample-square (s .pre .0 .0 .wide) r (l .loop .c) (omega arith) samples t e) (d .undo-macroblock-of .ensures)) in
     (omega arith, omega arith, omega arith, omega arith, among-as f (r * W) (r * W + (l .loop .c + 1)) refl (omega arith) (among-more f (r * W) (r * W + l .loop .c) (r * W + l .loop .c + 1) (omega arith) (omega arith) (v .4) one))
 
 same-length : tie.Need-same-length Inv-loop μ-loop
@@ -96,4 +96,4 @@ returns c =
 pub undo-row-spec : {M : Type 1} → statement M
 undo-row-spec =
     tie.close
-    (tie.spec Inv-loop μ-loop (λ c. search needs) (λ c. omega arith) loop-holds mul-undo-macroblock mul-undo-macroblock-2 mul-undo-macroblock-3 add-undo-macroblock mul-undo-macroblock-4 add-undo-macroblock-2 undo-macroblock-requires (λ c. omega arith) (λ c. omega arith) loop-again same-length same-length-2 same-length-3 returns)
+    (tie.spec Inv-loop μ-loop (λ c. search needs) (λ c. omega arith) loop-holds mul-undo-macroblock-of mul-undo-macroblock-of-2 mul-undo-macroblock-of-3 add-undo-macroblock-of mul-undo-macroblock-of-4 add-undo-macroblock-of-2 undo-macroblock-of-requires (λ c. omega arith) (λ c. omega arith) loop-again same-length same-length-2 same-length-3 returns)
