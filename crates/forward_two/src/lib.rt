@@ -9,7 +9,7 @@ ghost use Rattle.lifting.specs.Program.{undo, at as number};
 ghost use Rattle.picture.specs.Level.{level, cores as coresOf};
 ghost use Rattle.picture.specs.Planes.{firstGrid, secondGrid};
 ghost use Rattle.picture.specs.Sizes.{macroblocks, Sized};
-ghost use Rattle.forward_two_cores.specs.Blocks.{blockOf, undoneIn, Among, Replaced};
+ghost use Rattle.forward_two_cores.specs.Blocks.{blockOf, undoneIn, Among};
 ghost use Rattle.forward_two_edges.specs.Unfiltered.{unfiltered};
 ghost use Rattle.forward_two_edges.specs.Strip.{Holds, Kept, Given, Rows};
 ghost use Rattle.forward_two.specs.Strips.{Carried, Through, Planes, Lowered};

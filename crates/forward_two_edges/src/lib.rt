@@ -1,5 +1,4 @@
 // The edges of a picture in the strip: the filters of four along them undone from the samples, and the corners, which no filter touches.
-ghost use mathlib.Core.Path.{_≡_};
 ghost use Prim.Native.Nat.{ℕ, _+_, _*_, _/_, _%_, _<_, _≤_};
 ghost use lib.ListN.{length};
 ghost use Rattle.lifting.specs.Program.{at as number};

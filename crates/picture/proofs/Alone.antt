@@ -66,7 +66,7 @@ abbrev pub coresOfRow : ℕ → ℕ → Program
 coresOfRow p j = each p (λ i. coreAt (4 * p) (cell p (4 * j) (4 * i)))
 
 -- inside one square of a row, the cores of the row are the square's own; outside the row, nothing
-pub row-core-alone : (p j i : ℕ) → i < p → Does (InCell 0 p j i) (coresOfRow p j) (coreAt (4 * p) (cell p (4 * j) (4 * i)))
+row-core-alone : (p j i : ℕ) → i < p → Does (InCell 0 p j i) (coresOfRow p j) (coreAt (4 * p) (cell p (4 * j) (4 * i)))
 unfolding coreAt
 row-core-alone p j i hi =
     let its = square (4 * p) (cell p (4 * j) (4 * i)) in
@@ -117,9 +117,3 @@ module _ {p : ℕ} (wide : 0 < p) (q s : ℕ) (low : s < p * q) where
   unfolding run coreAt
   core-run-at v l k h =
       core-alone p q (s / p) (s % p) row-low (mod-lt s wide) .runs v v agree-refl .same (place p s k) (place-in-cell k h) ∙ stored (run core (get its v)) v (length-run-core (get its v)) l k h
-
-  -- the same, where only the cores of the square's own row run
-  pub row-run-at : (v : List ℤ) → length v ≡ 16 * (p * q) → (k : ℕ) → k < 16 → at (run (coresOfRow p (s / p)) v) (place p s k) ≡ at (run core (get its v)) k
-  unfolding run coreAt
-  row-run-at v l k h =
-      row-core-alone p (s / p) (s % p) (mod-lt s wide) .runs v v agree-refl .same (place p s k) (place-in-cell k h) ∙ stored (run core (get its v)) v (length-run-core (get its v)) l k h
