@@ -10,7 +10,7 @@ use Rattle.lifting.proofs.Reverse.{length-put}
 use Rattle.figures.specs.Figures.{squareFilter}
 use Rattle.picture.specs.Level.{square}
 use Rattle.picture.proofs.Table.{same-lists}
-use Rattle.lanes.specs.Lanes.{laneOf, Placed}
+use Rattle.lanes.specs.Lanes.{Placed}
 use Rattle.lanes.proofs.Rows.{square-at}
 use Rattle.forward_four_windows.specs.Windows.{windowAt, Windows}
 
@@ -18,17 +18,17 @@ pub length-square : (v : List ℤ) → length v ≡ 16 → length (undo squareFi
 unfolding undo squareFilter
 length-square v h = simp length-put h
 
--- woven, undone and moved
-pub windows-moved : (grid : List ℤ) (w i to : ℕ) (lanes out old new : List ℤ) → ((l : ℕ) → l < 4 → laneOf lanes l ≡ get (square w (i + 4 * l)) grid)
-    → ((l : ℕ) → l < 4 → get (square 16 (4 * l)) out ≡ undo squareFilter (laneOf lanes l)) → Placed out old 72 to new → Windows grid w i to old new
+-- held in lanes, undone and moved
+pub windows-moved : (grid : List ℤ) (w i to : ℕ) (lane : ℕ → List ℤ) (out old new : List ℤ) → ((l : ℕ) → l < 4 → lane l ≡ get (square w (i + 4 * l)) grid)
+    → ((l : ℕ) → l < 4 → get (square 16 (4 * l)) out ≡ undo squareFilter (lane l)) → Placed out old 72 to new → Windows grid w i to old new
 unfolding windowAt
-windows-moved grid w i to lanes out old new woven undone p = record {
+windows-moved grid w i to lane out old new held undone p = record {
   len = p .len;
   own = λ y x h k.
       let l = x / 4 in
       let n = 4 * y + x % 4 in
       ap (at new) (omega arith) ∙ sym (square-at 72 (to + 4 * l) new n (omega arith))
-      ∙ ap (λ v. at v n) (p .own l (omega arith) ∙ undone l (omega arith) ∙ ap (undo squareFilter) (woven l (omega arith)));
+      ∙ ap (λ v. at v n) (p .own l (omega arith) ∙ undone l (omega arith) ∙ ap (undo squareFilter) (held l (omega arith)));
   others = p .rest;
 }
 

@@ -9,18 +9,25 @@ ghost use Rattle.picture.specs.Level.{square};
 ghost use Rattle.lanes.specs.Lanes.{laneOf, Placed};
 ghost use Rattle.forward_four_windows.specs.Windows.{Windows};
 use grid::put_square;
+use lanes::hold;
 use lanes::lane;
 use lanes::move_row;
-use lanes::weave;
 use square_filter::undo_square_filter;
 
-// The four windows woven in `lanes`, side by side.
-fn undo_lanes(lanes: &[i32], out: &mut [i32])
-    requires { ⌜ (length (now lanes) ≡ 64) × (length (now out) ≡ 64) ⌝ }
-    ensures { λ u. ⌜ ((l : ℕ) → l < 4 → get (square 16 (4 * l)) (now (out .exit)) ≡ undo squareFilter (laneOf (now (lanes .entry)) l)) ⌝ }
+// The windows in the four lanes, side by side.
+fn undo_lanes(a: &[i32], b: &[i32], c: &[i32], d: &[i32], out: &mut [i32])
+    requires { ⌜ (length (now a) ≡ 16) × (length (now b) ≡ 16) × (length (now c) ≡ 16) × (length (now d) ≡ 16) ⌝ }
+    requires { ⌜ length (now out) ≡ 64 ⌝ }
+    ensures { λ u. ⌜ ((l : ℕ) → l < 4 → get (square 16 (4 * l)) (now (out .exit)) ≡
+        undo squareFilter (laneOf (now (a .entry)) (now (b .entry)) (now (c .entry)) (now (d .entry)) l)) ⌝ }
 {
     for l in 0..4 {
-        put_square(out, 16, 4 * l, undo_square_filter(lane(lanes, l)));
+        put_square(
+            out,
+            16,
+            4 * l,
+            undo_square_filter(lane(a, b, c, d, 12 - 4 * l)),
+        );
     }
 }
 
@@ -42,12 +49,15 @@ pub fn undo_four_windows(grid: &[i32], w: usize, at: usize, strip: &mut [i32], t
     requires { ⌜ to + 231 < length (now strip) ⌝ }
     ensures { λ u. ⌜ Windows (now (grid .entry)) w at to (now (strip .entry)) (now (strip .exit)) ⌝ }
 {
-    let mut lanes = [0i32; 64];
-    weave(grid, 4, at, 4, &mut lanes, 0);
-    weave(grid, 4, at + w, 4, &mut lanes, 16);
-    weave(grid, 4, at + w + w, 4, &mut lanes, 32);
-    weave(grid, 4, at + w + w + w, 4, &mut lanes, 48);
+    let mut a = [0i32; 16];
+    hold(grid, 4, at, &mut a);
+    let mut b = [0i32; 16];
+    hold(grid, 4, at + w, &mut b);
+    let mut c = [0i32; 16];
+    hold(grid, 4, at + w + w, &mut c);
+    let mut d = [0i32; 16];
+    hold(grid, 4, at + w + w + w, &mut d);
     let mut out = [0i32; 64];
-    undo_lanes(&lanes, &mut out);
+    undo_lanes(&a, &b, &c, &d, &mut out);
     move_rows(&out, strip, to);
 }

@@ -15,7 +15,6 @@ use Rattle.figures.specs.Block.{four, flat}
 use Rattle.figures.specs.Figures.{core}
 use Rattle.figures.proofs.Parts.{kept}
 use Rattle.picture.specs.Level.{strip, square}
-use Rattle.lanes.specs.Lanes.{laneOf}
 use Rattle.forward_kernel.specs.Placed.{Placed, InLane, Undone, undoneAt}
 
 pub placed-none : (i : ℕ) (f : ℕ → ℤ) (v : List ℤ) → Placed i 0 f v v
@@ -177,12 +176,12 @@ blocks-placed block i a b c d =
 
 -- ---- the four blocks of a grid
 
-module _ (grid : List ℤ) (w i : ℕ) (lanes zeros out : List ℤ) (woven : (l : ℕ) → l < 4 → laneOf lanes l ≡ get (square w (i + 4 * l)) grid)
-    (undone : (l : ℕ) → l < 4 → Undone l (laneOf lanes l) zeros out) where
+module _ (grid : List ℤ) (w i : ℕ) (lane : ℕ → List ℤ) (zeros out : List ℤ) (held : (l : ℕ) → l < 4 → lane l ≡ get (square w (i + 4 * l)) grid)
+    (undone : (l : ℕ) → l < 4 → Undone l (lane l) zeros out) where
   pub zeros-of : (l : ℕ) → l < 4 → at zeros l ≡ at (undoneAt w (i + 4 * l) grid) 0
   unfolding undoneAt
-  zeros-of l h = undone l h .zero ∙ ap (λ b. at (undo core b) 0) (woven l h)
+  zeros-of l h = undone l h .zero ∙ ap (λ b. at (undo core b) 0) (held l h)
 
   pub lanes-of : (l : ℕ) → l < 4 → InLane l (undoneAt w (i + 4 * l) grid) out
   unfolding undoneAt
-  lanes-of l h = subst (λ b. InLane l (undo core b) out) (woven l h) (undone l h .rest)
+  lanes-of l h = subst (λ b. InLane l (undo core b) out) (held l h) (undone l h .rest)

@@ -11,8 +11,8 @@ ghost use Rattle.forward_kernel.specs.Placed.{Placed, InLane, Undone, un
 use core_transform::undo_core;
 use grid::get_four;
 use grid::put_four;
+use lanes::hold;
 use lanes::lane;
-use lanes::weave;
 
 // A block goes to lane l. Its coefficient 4 is stored twice, so that each row of a lane is four numbers that stand together in the plane.
 fn put_lane(b: [[i32; 4]; 4], l: usize, zeros: &mut [i32], out: &mut [i32])
@@ -43,14 +43,15 @@ fn move_lane(out: &[i32], l: usize, rest: &mut [i32], from: usize)
     put_four(rest, 1, from + 11, get_four(out, 1, 48 + 4 * l));
 }
 
-// The four blocks woven in `lanes`, their cores undone.
-fn undo_lanes(lanes: &[i32], zeros: &mut [i32], out: &mut [i32])
-    requires { ⌜ length (now lanes) ≡ 64 ⌝ }
+// The blocks in the four lanes, their cores undone.
+fn undo_lanes(a: &[i32], b: &[i32], c: &[i32], d: &[i32], zeros: &mut [i32], out: &mut [i32])
+    requires { ⌜ (length (now a) ≡ 16) × (length (now b) ≡ 16) × (length (now c) ≡ 16) × (length (now d) ≡ 16) ⌝ }
     requires { ⌜ (length (now zeros) ≡ 4) × (length (now out) ≡ 64) ⌝ }
-    ensures { λ u. ⌜ ((l : ℕ) → l < 4 → Undone l (laneOf (now (lanes .entry)) l) (now (zeros .exit)) (now (out .exit))) ⌝ }
+    ensures { λ u. ⌜ ((l : ℕ) → l < 4 →
+        Undone l (laneOf (now (a .entry)) (now (b .entry)) (now (c .entry)) (now (d .entry)) l) (now (zeros .exit)) (now (out .exit))) ⌝ }
 {
     for l in 0..4 {
-        put_lane(undo_core(lane(lanes, l)), l, zeros, out);
+        put_lane(undo_core(lane(a, b, c, d, 12 - 4 * l)), l, zeros, out);
     }
 }
 
@@ -73,14 +74,17 @@ pub fn undo_four_cores(grid: &[i32], w: usize, at: usize, rest: &mut [i32], from
     ensures { λ r. ⌜ ((l : ℕ) → l < 4 → number r l ≡ number (undoneAt w (at + 4 * l) (now (grid .entry))) 0) ⌝ }
     ensures { λ r. ⌜ Placed from 60 (λ k. number (undoneAt w (at + 4 * (k / 15)) (now (grid .entry))) (k % 15 + 1)) (now (rest .entry)) (now (rest .exit)) ⌝ }
 {
-    let mut lanes = [0i32; 64];
-    weave(grid, 4, at, 4, &mut lanes, 0);
-    weave(grid, 4, at + w, 4, &mut lanes, 16);
-    weave(grid, 4, at + w + w, 4, &mut lanes, 32);
-    weave(grid, 4, at + w + w + w, 4, &mut lanes, 48);
+    let mut a = [0i32; 16];
+    hold(grid, 4, at, &mut a);
+    let mut b = [0i32; 16];
+    hold(grid, 4, at + w, &mut b);
+    let mut c = [0i32; 16];
+    hold(grid, 4, at + w + w, &mut c);
+    let mut d = [0i32; 16];
+    hold(grid, 4, at + w + w + w, &mut d);
     let mut zeros = [0i32; 4];
     let mut out = [0i32; 64];
-    undo_lanes(&lanes, &mut zeros, &mut out);
+    undo_lanes(&a, &b, &c, &d, &mut zeros, &mut out);
     move_lanes(&out, rest, from);
     zeros
 }

@@ -8,17 +8,35 @@ ghost use Rattle.picture.specs.Level.{square, squareFilterAt};
 ghost use Rattle.lanes.specs.Lanes.{laneOf};
 use grid::get_square;
 use grid::put_square;
+use lanes::hold;
 use lanes::lane;
-use lanes::weave_squares;
 use square_filter::square_filter;
 
-fn four_square_filters(lanes: &[i32], out: &mut [i32])
-    requires { ⌜ (length (now lanes) ≡ 64) × (length (now out) ≡ 64) ⌝ }
-    ensures { λ r. ⌜ ((l : ℕ) → l < 4 → get (square 16 (4 * l)) (now (out .exit)) ≡ run squareFilter (laneOf (now (lanes .entry)) l)) ⌝ }
+fn four_square_filters(a: &[i32], b: &[i32], c: &[i32], d: &[i32], out: &mut [i32])
+    requires { ⌜ (length (now a) ≡ 16) × (length (now b) ≡ 16) × (length (now c) ≡ 16) × (length (now d) ≡ 16) ⌝ }
+    requires { ⌜ length (now out) ≡ 64 ⌝ }
+    ensures { λ r. ⌜ ((l : ℕ) → l < 4 → get (square 16 (4 * l)) (now (out .exit)) ≡
+        run squareFilter (laneOf (now (a .entry)) (now (b .entry)) (now (c .entry)) (now (d .entry)) l)) ⌝ }
 {
     for l in 0..4 {
-        put_square(out, 16, 4 * l, square_filter(lane(lanes, l)));
+        put_square(out, 16, 4 * l, square_filter(lane(a, b, c, d, 12 - 4 * l)));
     }
+}
+
+// Four windows of a grid of w columns, the first at `at`, filtered side by side.
+fn filter_four(grid: &[i32], w: usize, at: usize, out: &mut [i32])
+    requires { ⌜ (at + w + w + w + 15 < length (now grid)) × (length (now out) ≡ 64) ⌝ }
+    ensures { λ r. ⌜ ((l : ℕ) → l < 4 → get (square 16 (4 * l)) (now (out .exit)) ≡ run squareFilter (get (square w (at + 4 * l)) (now (grid .entry)))) ⌝ }
+{
+    let mut a = [0i32; 16];
+    hold(grid, 4, at, &mut a);
+    let mut b = [0i32; 16];
+    hold(grid, 4, at + w, &mut b);
+    let mut c = [0i32; 16];
+    hold(grid, 4, at + w + w, &mut c);
+    let mut d = [0i32; 16];
+    hold(grid, 4, at + w + w + w, &mut d);
+    four_square_filters(&a, &b, &c, &d, out);
 }
 
 // Square l of four to its place.
@@ -35,10 +53,8 @@ pub fn four_windows(grid: &mut [i32], w: usize, at: usize, n: usize)
     requires { ⌜ (0 < n) × (n ≤ 4) × (4 * n ≤ w) × (at + w + w + w + 15 < length (now grid)) ⌝ }
     ensures { λ r. ⌜ now (grid .exit) ≡ run (each n (λ i. squareFilterAt w (at + 4 * i))) (now (grid .entry)) ⌝ }
 {
-    let mut lanes = [0i32; 64];
     let mut out = [0i32; 64];
-    weave_squares(grid, w, at, &mut lanes);
-    four_square_filters(&lanes, &mut out);
+    filter_four(grid, w, at, &mut out);
     move_square(&out, 0, grid, w, at);
     if n == 1 {
         return;

@@ -1,12 +1,12 @@
 -- Blocks of level two, in place: which coefficients each block has, and the squares that hold them after their core transforms.
-use Prim.Native.Nat.{ℕ, _+_, _*_, _/_, _≤_, _<_}
+use Prim.Native.Nat.{ℕ, _+_, _-_, _*_, _/_, _≤_, _<_}
 use mathlib.Core.Path.{_≡_}
-use mathlib.Core.List.{List}
+use mathlib.Core.List.{List, [], _∷_, _++_}
 use lib.ListN.{length}
 use lib.IntN.{ℤ}
 use Rattle.lifting.specs.Program.{at, get, run}
 use Rattle.figures.specs.Figures.{core}
-use Rattle.picture.specs.Level.{square}
+use Rattle.picture.specs.Level.{strip, square}
 use Rattle.picture.specs.Planes.{table, coefficients, blockOrder}
 use Rattle.lanes.specs.Lanes.{Outside}
 use Rattle.inverse_levels.specs.Filled.{Filled}
@@ -26,6 +26,14 @@ InRows W y e b = (y ≤ b / (4 * W)) × (b / (4 * W) < e)
 -- in the samples v of a picture W macroblocks wide, those rows of blocks hold the core transforms of their coefficients, and the rest is the old
 abbrev pub RowsCored : ℕ → List ℤ → List ℤ → ℕ → ℕ → List ℤ → Type 0
 RowsCored W high old y e v = Filled (4 * W) (cored (blockNumbers W old high)) old (InRows W y e) v
+
+-- a block in lanes, its numbers from place i on: coefficient 0 by itself, and coefficients 1 to 4, 4 to 7, 8 to 11 and 12 to 15 in four rows
+abbrev pub blockAt : ℤ → List ℤ → List ℤ → List ℤ → List ℤ → ℕ → List ℤ
+blockAt zero a b c d i = (zero ∷ at a i ∷ at a (i + 1) ∷ at a (i + 1 + 1) ∷ []) ++ get (strip 1 i) b ++ get (strip 1 i) c ++ get (strip 1 i) d
+
+-- the block of lane l
+abbrev pub blockInLane : List ℤ → List ℤ → List ℤ → List ℤ → List ℤ → ℕ → List ℤ
+blockInLane zeros a b c d l = blockAt (at zeros l) a b c d (12 - 4 * l)
 
 -- four blocks b to b + 3 side by side, whose high-pass numbers stand from `from` on: their squares, the first at `first`, hold their core transforms
 pub record FourBlocks (old high : List ℤ) (w first b from : ℕ) (v : List ℤ) : Type 0 where

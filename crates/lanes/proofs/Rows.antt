@@ -1,4 +1,4 @@
--- Rows of a grid woven into lanes and moved out again, number by number: four at a time, and a row of sixteen after the other.
+-- Rows of a grid held in lanes, and moved out again number by number: four at a time, and a row of sixteen after the other.
 use Prim.Native.Nat.{ℕ, _+_, _-_, _*_, _/_, _%_, _≤_, _<_}
 use mathlib.Core.Path.{_≡_, refl, sym, _∙_, ap}
 use mathlib.Core.List.{List, [], _∷_, _++_, map}
@@ -19,11 +19,11 @@ use Rattle.picture.proofs.Table.{at-table, table-same}
 use Rattle.picture.proofs.Squares.{sixteen, get-sixteen}
 use Rattle.picture.proofs.Levels.{rising-places}
 use Rattle.picture.proofs.Cells.{all-strip}
-use Rattle.lanes.specs.Lanes.{laneOf, Woven, Moved, Placed}
+use Rattle.lanes.specs.Lanes.{laneOf, Holds, Moved, Placed}
 
 -- ---- four places
 
-four-numbers : (v : List ℤ) {a b c d a' b' c' d' : ℕ} → a ≡ a' → b ≡ b' → c ≡ c' → d ≡ d'
+pub four-numbers : (v : List ℤ) {a b c d a' b' c' d' : ℕ} → a ≡ a' → b ≡ b' → c ≡ c' → d ≡ d'
     → at v a ∷ at v b ∷ at v c ∷ at v d ∷ [] ≡ at v a' ∷ at v b' ∷ at v c' ∷ at v d' ∷ []
 four-numbers v a b c d = rw (a, b, c, d)
 
@@ -55,23 +55,6 @@ module _ (s v x : List ℤ) {u : List ℤ} (step i j : ℕ) (read : four x ≡ g
 
   pub four-len : length u ≡ length v
   four-len = ap length stored ∙ length-put (strip 1 i) (four x) v
-
--- ---- n coefficients of each lane
-
-pub woven-none : (s : List ℤ) (step from : ℕ) (v : List ℤ) (to : ℕ) → Woven s step from 0 v to v
-woven-none s step from v to = record { len = refl; own = λ k l h m. absurd (omega arith); rest = λ i h. refl }
-
-pub woven-more : {s old v u : List ℤ} (x : List ℤ) (step from n to : ℕ) → to + 4 * n + 3 < length v → four x ≡ get (strip step (from + n)) s → u ≡ put (strip 1 (to + 4 * n)) (four x) v
-    → Woven s step from n old to v → Woven s step from (n + 1) old to u
-woven-more {s} {old} {v} {u} x step from n to room read stored r = record {
-  len = four-len s v x step (to + 4 * n) (from + n) read stored ∙ r .len;
-  own = λ k l h m. own k l h m (ℕ-discrete k n);
-  rest = λ i h. four-rest s v x step (to + 4 * n) (from + n) read stored i (λ z. h (omega arith, omega arith)) ∙ r .rest i (λ z. h (omega arith, omega arith));
-}
-  where
-    own : (k l : ℕ) → k < n + 1 → l < 4 → Dec (k ≡ n) → at u (to + 4 * k + l) ≡ at s (from + k + step * l)
-    own k l h m (yes e) = rw e (four-own s v x step (to + 4 * n) (from + n) read stored room l m)
-    own k l h m (no o) = four-rest s v x step (to + 4 * n) (from + n) read stored (to + 4 * k + l) (λ z. absurd (omega (arith, o))) ∙ r .own k l (omega (arith, o)) m
 
 -- ---- numbers in a row
 
@@ -117,46 +100,22 @@ square-at w i v k h = ap (λ x. at x k) (square-numbers w i v) ∙ at-table 16 (
 
 -- ---- lanes
 
--- four strips of four, at distance 4, are a lane
-pub lane-read : (v : List ℤ) (l : ℕ) (p q r s : List ℤ) → four p ≡ get (strip 4 l) v → four q ≡ get (strip 4 (l + 16)) v → four r ≡ get (strip 4 (l + 32)) v → four s ≡ get (strip 4 (l + 48)) v
-    → flat (p ∷ q ∷ r ∷ s ∷ []) ≡ laneOf v l
-unfolding get flat table
-lane-read v l p q r s a b c d =
-    joined (a ∙ four-numbers v (omega arith) (omega arith) (omega arith) (omega arith)) (b ∙ four-numbers v (omega arith) (omega arith) (omega arith) (omega arith))
-    (c ∙ four-numbers v (omega arith) (omega arith) (omega arith) (omega arith)) (d ∙ four-numbers v (omega arith) (omega arith) (omega arith) (omega arith))
+pub joined : {x x' y y' z z' w w' : List ℤ} → x ≡ x' → y ≡ y' → z ≡ z' → w ≡ w' → x ++ y ++ z ++ w ≡ x' ++ y' ++ z' ++ w'
+joined a b c d = rw (a, b, c, d)
+
+-- a square read row by row
+pub four-rows : (p q r s : List ℤ) {x y z w : List ℤ} → four p ≡ x → four q ≡ y → four r ≡ z → four s ≡ w → flat (p ∷ q ∷ r ∷ s ∷ []) ≡ x ++ y ++ z ++ w
+unfolding flat
+four-rows p q r s a b c d = joined a b c d
+
+-- rows of four squares side by side, the first at place i of a grid of w columns
+pub lanes-held : (s a b c d : List ℤ) (w i : ℕ) → Holds s 4 i a → Holds s 4 (i + w) b → Holds s 4 (i + w + w) c → Holds s 4 (i + w + w + w) d
+    → (l : ℕ) → l < 4 → laneOf a b c d l ≡ get (square w (i + 4 * l)) s
+unfolding get square
+lanes-held s a b c d w i p q r t l h = joined (p .own l h) (q .own l h ∙ from (omega arith)) (r .own l h ∙ from (omega arith)) (t .own l h ∙ from (omega arith))
   where
-    joined : {x x' y y' z z' w w' : List ℤ} → x ≡ x' → y ≡ y' → z ≡ z' → w ≡ w' → x ++ (y ++ (z ++ w)) ≡ x' ++ (y' ++ (z' ++ w'))
-    joined a b c d = rw (a, b, c, d)
-
--- the first m rows of four squares woven in
-abbrev RowsIn : List ℤ → ℕ → ℕ → ℕ → List ℤ → Type 0
-RowsIn s w first m v = (k l : ℕ) → k < 4 * m → l < 4 → at v (4 * k + l) ≡ at s (first + 4 * l + k / 4 * w + k % 4)
-
-rows-in-more : (s old v : List ℤ) (w first m from to : ℕ) → from ≡ first + m * w → to ≡ 16 * m → RowsIn s w first m old → Woven s 4 from 4 old to v → RowsIn s w first (m + 1) v
-rows-in-more s old v w first m from to e f rows r k l h n = here (decLt k (4 * m))
-  where
-    here : Dec (k < 4 * m) → at v (4 * k + l) ≡ at s (first + 4 * l + k / 4 * w + k % 4)
-    here (yes z) = r .rest (4 * k + l) (λ y. absurd (omega (arith, f))) ∙ rows k l z n
-    here (no z) =
-        let row : k / 4 ≡ m = omega (arith, z) in
-        let a : 4 * k + l ≡ to + 4 * (k % 4) + l = omega arith in
-        let b : from + k % 4 + 4 * l ≡ first + 4 * l + k / 4 * w + k % 4 = rw row (omega arith) in
-        ap (at v) a ∙ r .own (k % 4) l (omega arith) n ∙ ap (at s) b
-
-pub all-woven : (s v0 v1 v2 v3 v4 : List ℤ) (w first : ℕ) → Woven s 4 first 4 v0 0 v1 → Woven s 4 (first + w) 4 v1 16 v2 → Woven s 4 (first + w + w) 4 v2 32 v3 → Woven s 4 (first + w + w + w) 4 v3 48 v4
-    → (l : ℕ) → l < 4 → laneOf v4 l ≡ get (square w (first + 4 * l)) s
-all-woven s v0 v1 v2 v3 v4 w first a b c d l h =
-    table-same 16 _ _ (λ k m. four-rows k l (omega arith) h) ∙ sym (square-numbers w (first + 4 * l) s)
-  where
-    none : RowsIn s w first 0 v0
-    none k l m n = absurd (omega arith)
-
-    four-rows : RowsIn s w first 4 v4
-    four-rows =
-        rows-in-more s v3 v4 w first 3 _ _ (omega arith) refl
-        (rows-in-more s v2 v3 w first 2 _ _ (omega arith) refl
-        (rows-in-more s v1 v2 w first 1 _ _ (omega arith) refl
-        (rows-in-more s v0 v1 w first 0 _ _ (omega arith) refl none a) b) c) d
+    from : {j k : ℕ} → j ≡ k → get (strip 1 j) s ≡ get (strip 1 k) s
+    from e = rw e
 
 -- ---- squares moved out
 

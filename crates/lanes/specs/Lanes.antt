@@ -1,22 +1,24 @@
--- Four squares side by side as four lanes: 64 numbers of which number 4 k + l is coefficient k of square l, so that the four squares' coefficients k stand together.
-use Prim.Native.Nat.{ℕ, _+_, _*_, _≤_, _<_}
+-- Four squares side by side as four lanes: each row of the squares in a list of sixteen numbers, of which lane l has the four from 12 - 4 l on.
+use Prim.Native.Nat.{ℕ, _+_, _-_, _*_, _≤_, _<_}
 use mathlib.Core.Path.{_≡_}
-use mathlib.Core.List.{List}
+use mathlib.Core.List.{List, _++_}
 use lib.ListN.{length}
 use lib.IntN.{ℤ}
 use Rattle.lifting.specs.Program.{at, get}
-use Rattle.picture.specs.Level.{square}
-use Rattle.picture.specs.Planes.{table}
+use Rattle.picture.specs.Level.{strip, square}
 
--- lane l
-abbrev pub laneOf : List ℤ → ℕ → List ℤ
-laneOf v l = table 16 (λ k. at v (4 * k + l))
+-- the rows' four numbers from place i on, one row after another
+abbrev pub rowsAt : List ℤ → List ℤ → List ℤ → List ℤ → ℕ → List ℤ
+rowsAt a b c d i = get (strip 1 i) a ++ get (strip 1 i) b ++ get (strip 1 i) c ++ get (strip 1 i) d
 
--- the lanes v: coefficients from `to` on come from n places of s, from `from` on, of which each lane has its own, `step` after the one of the lane before
-pub record Woven (s : List ℤ) (step from n : ℕ) (old : List ℤ) (to : ℕ) (v : List ℤ) : Type 0 where
-  pub len : length v ≡ length old
-  pub own : (k l : ℕ) → k < n → l < 4 → at v (to + 4 * k + l) ≡ at s (from + k + step * l)
-  pub rest : (i : ℕ) → ¬ ((to ≤ i) × (i < to + 4 * n)) → at v i ≡ at old i
+-- the square of lane l
+abbrev pub laneOf : List ℤ → List ℤ → List ℤ → List ℤ → ℕ → List ℤ
+laneOf a b c d l = rowsAt a b c d (12 - 4 * l)
+
+-- the row has four numbers of s for each lane: those of lane l stand from `from` + step * l on
+pub record Holds (s : List ℤ) (step from : ℕ) (row : List ℤ) : Type 0 where
+  pub len : length row ≡ 16
+  pub own : (l : ℕ) → l < 4 → get (strip 1 (12 - 4 * l)) row ≡ get (strip 1 (from + step * l)) s
 
 -- v has n numbers of s, from `from` on, at `to` and after it, and is otherwise the old one
 pub record Moved (s : List ℤ) (from n : ℕ) (old : List ℤ) (to : ℕ) (v : List ℤ) : Type 0 where

@@ -1,50 +1,39 @@
-// Four squares side by side as four lanes, for loops over the lanes: woven in, read lane by lane, and moved out by rows of sixteen.
-// The arrays of 64 numbers are local to the caller and vanish into registers: every loop below is short and every index a constant there.
+// Four squares side by side as four lanes, for loops over the lanes, and what comes of them moved out by rows of sixteen.
+// Each row of the squares is held in a local array of sixteen numbers, lane 0's four last and lane 3's first. So the compiler reads fours, turns them in
+// registers, and the arrays vanish. Where four more numbers of the array follow those of lane 0, it reads across them, and the array stays in memory.
 ghost use mathlib.Core.Path.{_≡_};
-ghost use Prim.Native.Nat.{ℕ, _+_, _*_, _<_, _≤_};
+ghost use Prim.Native.Nat.{_+_, _<_, _≤_};
 ghost use lib.ListN.{length};
-ghost use Rattle.lifting.specs.Program.{get};
 ghost use Rattle.figures.specs.Block.{flat};
-ghost use Rattle.picture.specs.Level.{square};
-ghost use Rattle.lanes.specs.Lanes.{laneOf, Woven, Moved, Placed};
+ghost use Rattle.lanes.specs.Lanes.{rowsAt, Holds, Moved, Placed};
 use grid::get_four;
 use grid::put_four;
 
-// n coefficients of each lane, from `to` on: those of lane l come from `from` + step * l on.
-pub fn weave(s: &[i32], step: usize, from: usize, n: usize, lanes: &mut [i32], to: usize)
-    requires { ⌜ from + n + step + step + step ≤ length (now s) ⌝ }
-    requires { ⌜ to + 4 * n ≤ length (now lanes) ⌝ }
-    ensures { λ r. ⌜ Woven (now (s .entry)) step from n (now (lanes .entry)) to (now (lanes .exit)) ⌝ }
+// Four numbers for each lane: those of lane l are the four from `from` + step * l on.
+pub fn hold(s: &[i32], step: usize, from: usize, row: &mut [i32])
+    requires { ⌜ from + step + step + step + 3 < length (now s) ⌝ }
+    requires { ⌜ length (now row) ≡ 16 ⌝ }
+    ensures { λ r. ⌜ Holds (now (s .entry)) step from (now (row .exit)) ⌝ }
 {
-    for k in 0..n {
-        put_four(lanes, 1, to + 4 * k, get_four(s, step, from + k));
-    }
+    let second = from + step;
+    let third = second + step;
+    let fourth = third + step;
+    put_four(row, 1, 12, get_four(s, 1, from));
+    put_four(row, 1, 8, get_four(s, 1, second));
+    put_four(row, 1, 4, get_four(s, 1, third));
+    put_four(row, 1, 0, get_four(s, 1, fourth));
 }
 
-// Four squares side by side, the first at `at`, of a grid of w columns.
-pub fn weave_squares(grid: &[i32], w: usize, at: usize, lanes: &mut [i32])
-    requires { ⌜ at + w + w + w + 15 < length (now grid) ⌝ }
-    requires { ⌜ length (now lanes) ≡ 64 ⌝ }
-    ensures { λ r. ⌜ ((l : ℕ) → l < 4 → laneOf (now (lanes .exit)) l ≡ get (square w (at + 4 * l)) (now (grid .entry))) ⌝ }
-{
-    let second = at + w;
-    let third = second + w;
-    let fourth = third + w;
-    weave(grid, 4, at, 4, lanes, 0);
-    weave(grid, 4, second, 4, lanes, 16);
-    weave(grid, 4, third, 4, lanes, 32);
-    weave(grid, 4, fourth, 4, lanes, 48);
-}
-
-pub fn lane(lanes: &[i32], l: usize) -> [[i32; 4]; 4]
-    requires { ⌜ (l < 4) × (length (now lanes) ≡ 64) ⌝ }
-    ensures { λ r. ⌜ flat r ≡ laneOf (now (lanes .entry)) l ⌝ }
+// The square of the lane whose numbers stand from `at` on in each row.
+pub fn lane(a: &[i32], b: &[i32], c: &[i32], d: &[i32], at: usize) -> [[i32; 4]; 4]
+    requires { ⌜ (at + 3 < length (now a)) × (at + 3 < length (now b)) × (at + 3 < length (now c)) × (at + 3 < length (now d)) ⌝ }
+    ensures { λ r. ⌜ flat r ≡ rowsAt (now (a .entry)) (now (b .entry)) (now (c .entry)) (now (d .entry)) at ⌝ }
 {
     [
-        get_four(lanes, 4, l),
-        get_four(lanes, 4, l + 16),
-        get_four(lanes, 4, l + 32),
-        get_four(lanes, 4, l + 48),
+        get_four(a, 1, at),
+        get_four(b, 1, at),
+        get_four(c, 1, at),
+        get_four(d, 1, at),
     ]
 }
 
