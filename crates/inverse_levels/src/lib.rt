@@ -23,6 +23,14 @@ fn four_filter_at(grid: &mut [i32], step: usize, at: usize)
     put_four(grid, step, at, [f.a, f.b, f.c, f.d]);
 }
 
+fn four_filter_pair(grid: &mut [i32], step: usize, at: usize)
+    requires { ⌜ at + 1 + step + step + step < length (now grid) ⌝ }
+    ensures { λ r. ⌜ now (grid .exit) ≡ run (fourFilterAt step at then fourFilterAt step (at + 1)) (now (grid .entry)) ⌝ }
+{
+    four_filter_at(grid, step, at);
+    four_filter_at(grid, step, at + 1);
+}
+
 // ---- n uses in a line
 
 // The windows between the squares of row j and of row j + 1.
@@ -45,15 +53,6 @@ fn square_filters_across(grid: &mut [i32], p: usize, j: usize)
     }
 }
 
-fn four_filters(grid: &mut [i32], step: usize, first: usize, stride: usize, n: usize)
-    requires { ⌜ ((i : ℕ) → i < n → first + i * stride + step + step + step < length (now grid)) ⌝ }
-    ensures { λ r. ⌜ now (grid .exit) ≡ run (each n (λ i. fourFilterAt step (first + i * stride))) (now (grid .entry)) ⌝ }
-{
-    for i in 0..n {
-        four_filter_at(grid, step, first + i * stride);
-    }
-}
-
 // ---- the filters of a level, stage by stage
 
 // The n rows of windows from b on.
@@ -72,16 +71,25 @@ fn row_filters(grid: &mut [i32], p: usize, q: usize, r: usize)
     requires { ⌜ (0 < p) × (p ≤ 2100) × (q ≤ 1652) × (r < 4 * q) ⌝ }
     ensures { λ o. ⌜ now (grid .exit) ≡ run (rowFilters p r) (now (grid .entry)) ⌝ }
 {
-    four_filters(grid, 1, r * (4 * p) + 2, 4, p - 1);
+    let first = r * (4 * p) + 2;
+    let windows = p - 1;
+    for i in 0..windows {
+        four_filter_at(grid, 1, first + 4 * i);
+    }
 }
 
-fn column_filters(grid: &mut [i32], p: usize, q: usize, c: usize)
+// Columns c and c + 1 in one walk down the grid: their numbers stand in the same lines of memory.
+fn column_pair(grid: &mut [i32], p: usize, q: usize, c: usize)
     requires { ⌜ 16 * (p * q) ≤ length (now grid) ⌝ }
-    requires { ⌜ (c < 4 * p) × (p ≤ 2100) × (0 < q) × (q ≤ 1652) ⌝ }
-    ensures { λ r. ⌜ now (grid .exit) ≡ run (columnFilters p q c) (now (grid .entry)) ⌝ }
+    requires { ⌜ (c + 1 < 4 * p) × (p ≤ 2100) × (0 < q) × (q ≤ 1652) ⌝ }
+    ensures { λ r. ⌜ now (grid .exit) ≡ run (columnFilters p q c then columnFilters p q (c + 1)) (now (grid .entry)) ⌝ }
 {
     let w = 4 * p;
-    four_filters(grid, w, 2 * w + c, 4 * w, q - 1);
+    let first = 2 * w + c;
+    let windows = q - 1;
+    for j in 0..windows {
+        four_filter_pair(grid, w, first + j * (4 * w));
+    }
 }
 
 fn edge_columns(grid: &mut [i32], p: usize, q: usize)
@@ -90,10 +98,8 @@ fn edge_columns(grid: &mut [i32], p: usize, q: usize)
     ensures { λ r. ⌜ now (grid .exit) ≡
         run (columnFilters p q 0 then columnFilters p q 1 then columnFilters p q (4 * p - 2) then columnFilters p q (4 * p - 1)) (now (grid .entry)) ⌝ }
 {
-    column_filters(grid, p, q, 0);
-    column_filters(grid, p, q, 1);
-    column_filters(grid, p, q, 4 * p - 2);
-    column_filters(grid, p, q, 4 * p - 1);
+    column_pair(grid, p, q, 0);
+    column_pair(grid, p, q, 4 * p - 2);
 }
 
 fn edges(grid: &mut [i32], p: usize, q: usize)
