@@ -5,6 +5,7 @@ use mathlib.Core.Logic.{by-cases}
 use mathlib.Core.List.{List, [], _∷_}
 use native.Mathlib.Omega.{arith}
 use native.Mathlib.Decide.{ℕ-discrete, decLt}
+use native.Mathlib.Numerals.{add-one}
 use lib.ListN.{length, getD, set, length-set}
 use lib.Seq.{getD-set-same, getD-set-other}
 use lib.IntN.{ℤ, pos}
@@ -15,7 +16,24 @@ use Rattle.figures.specs.Block.{four, flat}
 use Rattle.figures.specs.Figures.{core}
 use Rattle.figures.proofs.Parts.{kept}
 use Rattle.picture.specs.Level.{strip, square}
+use Rattle.picture.specs.Planes.{table, coefficients}
+use Rattle.picture.proofs.Table.{table-is, table-same}
 use Rattle.forward_kernel.specs.Placed.{Placed, InLane, Undone, undoneAt}
+
+-- two blocks whose numbers are the same
+pub same-block : {x y : ℤ} (f g : ℕ → ℤ) → x ≡ y → ((k : ℕ) → k < 15 → f k ≡ g k) → table 16 (coefficients x f) ≡ table 16 (coefficients y g)
+same-block {x} {y} f g e h = table-same 16 (coefficients x f) (coefficients y g) entry
+  where
+    entry : (k : ℕ) → k < 16 → coefficients x f k ≡ coefficients y g k
+    entry zero l = e
+    entry (suc k) l = h k (omega arith)
+
+pub block-is : {x : ℤ} (f : ℕ → ℤ) (xs : List ℤ) → length xs ≡ 16 → x ≡ at xs 0 → ((k : ℕ) → k < 15 → f k ≡ at xs (k + 1)) → table 16 (coefficients x f) ≡ xs
+block-is {x} f xs n e h = table-is 16 (coefficients x f) xs n entry
+  where
+    entry : (k : ℕ) → k < 16 → coefficients x f k ≡ at xs k
+    entry zero l = e
+    entry (suc k) l = h k (omega arith) ∙ ap (at xs) (add-one k)
 
 pub placed-none : (i : ℕ) (f : ℕ → ℤ) (v : List ℤ) → Placed i 0 f v v
 placed-none i f v = record { len = refl; own = λ k h. absurd (omega arith); below = λ j h. refl; above = λ j h. refl }

@@ -1,35 +1,21 @@
 -- A block stored number by number, and blocks replaced one after another or four at a time: each adds to what is done and leaves the rest.
-use Prim.Native.Nat.{ℕ, zero, suc, _+_, _-_, _*_, _/_, _%_, _<_, _≤_}
+use Prim.Native.Nat.{ℕ, _+_, _-_, _*_, _/_, _%_, _<_, _≤_}
 use mathlib.Core.Path.{_≡_, refl, _∙_, ap, ap₂}
 use mathlib.Core.Logic.{by-cases}
 use mathlib.Core.List.{List}
 use native.Mathlib.Omega.{arith}
 use native.Mathlib.Decide.{decLt}
-use native.Mathlib.Numerals.{add-one}
 use lib.ListN.{length, set}
 use lib.Seq.{getD-set-same, getD-set-other}
 use lib.IntN.{ℤ, pos}
 use Rattle.lifting.specs.Program.{at, get, undo}
 use Rattle.figures.specs.Figures.{core}
 use Rattle.picture.specs.Level.{square}
-use Rattle.picture.specs.Planes.{table, coefficients}
-use Rattle.picture.proofs.Table.{length-table, table-is, table-same}
-use Rattle.forward_kernel.specs.Placed.{Placed, undoneAt}
-use Rattle.forward_one_cores.specs.Blocks.{blockIn, Replaced}
-
-same-block : {x y : ℤ} (f g : ℕ → ℤ) → x ≡ y → ((k : ℕ) → k < 15 → f k ≡ g k) → table 16 (coefficients x f) ≡ table 16 (coefficients y g)
-same-block {x} {y} f g e h = table-same 16 (coefficients x f) (coefficients y g) entry
-  where
-    entry : (k : ℕ) → k < 16 → coefficients x f k ≡ coefficients y g k
-    entry zero l = e
-    entry (suc k) l = h k (omega arith)
-
-block-is : {x : ℤ} (f : ℕ → ℤ) (xs : List ℤ) → length xs ≡ 16 → x ≡ at xs 0 → ((k : ℕ) → k < 15 → f k ≡ at xs (k + 1)) → table 16 (coefficients x f) ≡ xs
-block-is {x} f xs n e h = table-is 16 (coefficients x f) xs n entry
-  where
-    entry : (k : ℕ) → k < 16 → coefficients x f k ≡ at xs k
-    entry zero l = e
-    entry (suc k) l = h k (omega arith) ∙ ap (at xs) (add-one k)
+use Rattle.picture.specs.Planes.{coefficients}
+use Rattle.picture.proofs.Table.{length-table}
+use Rattle.forward_kernel.specs.Placed.{Placed, undoneAt, blockIn}
+use Rattle.forward_kernel.proofs.Stores.{same-block, block-is}
+use Rattle.forward_one_cores.specs.Blocks.{Replaced}
 
 pub length-block : (dc low : List ℤ) (t : ℕ) → length (blockIn dc low t) ≡ 16
 unfolding blockIn

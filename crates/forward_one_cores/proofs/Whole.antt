@@ -15,7 +15,7 @@ use Rattle.picture.proofs.Table.{at-table, table-same}
 use Rattle.picture.proofs.Grid.{grid-is, length-grid, at-first}
 use Rattle.picture.proofs.Squares.{square-places}
 use Rattle.picture.proofs.Alone.{core-alone, core-undone-at}
-use Rattle.forward_one_cores.specs.Blocks.{blockIn}
+use Rattle.forward_kernel.specs.Placed.{blockIn}
 
 module _ {W : ℕ} (wide : 0 < W) (H : ℕ) (tall : 0 < H) (dc low : List ℤ) where
   its : (m : ℕ) → m < W * H → get (square (4 * W) (cell W (4 * (m / W)) (4 * (m % W)))) (firstGrid W H dc low) ≡ blockIn dc low m

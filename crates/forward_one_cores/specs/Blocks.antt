@@ -4,12 +4,6 @@ use mathlib.Core.Path.{_≡_}
 use mathlib.Core.List.{List}
 use lib.ListN.{length}
 use lib.IntN.{ℤ}
-use Rattle.lifting.specs.Program.{at}
-use Rattle.picture.specs.Planes.{table, coefficients}
-
--- block t: its coefficient 0 is number t of one list, and its coefficients 1 to 15 are the t-th fifteen of another
-unfoldable pub blockIn : List ℤ → List ℤ → ℕ → List ℤ
-blockIn dc low t = table 16 (coefficients (at dc t) (λ k. at low (15 * t + k)))
 
 -- the first n blocks lie in two lists
 pub record Room (n : ℕ) (dc low : List ℤ) : Type 0 where

@@ -1,11 +1,10 @@
 -- Blocks stored and replaced one after another: each store adds to what is done and leaves the rest.
-use Prim.Native.Nat.{ℕ, zero, suc, _+_, _*_, _/_, _%_, _<_, _≤_}
-use mathlib.Core.Path.{_≡_, refl, sym, _∙_, ap, ap₂, subst}
+use Prim.Native.Nat.{ℕ, _+_, _*_, _/_, _%_, _<_, _≤_}
+use mathlib.Core.Path.{_≡_, refl, _∙_, ap, ap₂, subst}
 use mathlib.Core.Logic.{by-cases}
 use mathlib.Core.List.{List}
 use native.Mathlib.Omega.{arith}
 use native.Mathlib.Decide.{decLt}
-use native.Mathlib.Numerals.{add-one}
 use native.Mathlib.Nat.{add-mul, mul-le-mul-right}
 use lib.Arith.{digits-div, digits-mod}
 use lib.ListN.{length, set, length-set}
@@ -15,33 +14,17 @@ use Rattle.lifting.specs.Program.{at, get, put, undo}
 use Rattle.figures.specs.Block.{four}
 use Rattle.figures.specs.Figures.{core}
 use Rattle.picture.specs.Level.{strip, square}
-use Rattle.picture.specs.Planes.{table, coefficients, blockAt}
-use Rattle.picture.proofs.Table.{table-is, table-same}
-use Rattle.forward_kernel.specs.Placed.{Placed, undoneAt}
-use Rattle.forward_kernel.proofs.Stores.{placed-after, four-placed}
-use Rattle.forward_two_cores.specs.Blocks.{zerosOf, blockOf, squareIn, undoneIn, Among, Replaced, Elsewhere}
+use Rattle.picture.specs.Planes.{coefficients, blockAt}
+use Rattle.forward_kernel.specs.Placed.{Placed, undoneAt, blockIn}
+use Rattle.forward_kernel.proofs.Stores.{same-block, block-is, placed-after, four-placed}
+use Rattle.forward_two_cores.specs.Blocks.{blockOf, squareIn, undoneIn, Among, Replaced, Elsewhere}
 
 -- ---- blocks
 
--- two blocks whose numbers are the same
-pub same-block : {x y : ℤ} (f g : ℕ → ℤ) → x ≡ y → ((k : ℕ) → k < 15 → f k ≡ g k) → table 16 (coefficients x f) ≡ table 16 (coefficients y g)
-same-block {x} {y} f g e h = table-same 16 (coefficients x f) (coefficients y g) entry
-  where
-    entry : (k : ℕ) → k < 16 → coefficients x f k ≡ coefficients y g k
-    entry zero l = e
-    entry (suc k) l = h k (omega arith)
-
-pub block-is : {x : ℤ} (f : ℕ → ℤ) (xs : List ℤ) → length xs ≡ 16 → x ≡ at xs 0 → ((k : ℕ) → k < 15 → f k ≡ at xs (k + 1)) → table 16 (coefficients x f) ≡ xs
-block-is {x} f xs n e h = table-is 16 (coefficients x f) xs n entry
-  where
-    entry : (k : ℕ) → k < 16 → coefficients x f k ≡ at xs k
-    entry zero l = e
-    entry (suc k) l = h k (omega arith) ∙ ap (at xs) (add-one k)
-
 -- a block is stored
 pub block-stored : (t : ℕ) (xs zeros : List ℤ) {rest zeros' rest' : List ℤ} → t < length zeros → length xs ≡ 16
-    → zeros' ≡ set zeros t (at xs 0) → Placed (15 * t) 15 (λ k. at xs (k + 1)) rest rest' → Replaced (λ s. s ≡ t) (λ s. xs) (zerosOf zeros rest) (zerosOf zeros' rest')
-unfolding zerosOf
+    → zeros' ≡ set zeros t (at xs 0) → Placed (15 * t) 15 (λ k. at xs (k + 1)) rest rest' → Replaced (λ s. s ≡ t) (λ s. xs) (blockIn zeros rest) (blockIn zeros' rest')
+unfolding blockIn
 block-stored t xs zeros {rest} {zeros'} {rest'} room n e p = record {
   own = λ s y. block-is _ xs n (ap (at zeros') y ∙ ap (λ v. at v t) e ∙ getD-set-same zeros t (at xs 0) (pos 0) room) (λ k h. ap (λ (r : ℕ). at rest' (15 * r + k)) y ∙ p .own k h);
   others = λ s o. same-block _ _ (ap (λ v. at v s) e ∙ getD-set-other zeros t s (at xs 0) (pos 0) o) (λ k h. by-cases (decLt s t) (λ l. p .below (15 * s + k) (omega arith)) (λ l. p .above (15 * s + k) (omega (arith, l, o))));
@@ -72,7 +55,7 @@ among-none a f old = record { own = λ t h. absurd (omega (arith, h)); others = 
 -- ---- a macroblock's blocks: their coefficients 0 among DC and low-pass, the others in its part of the high-pass plane
 
 pub macroblock-replaced : (m : ℕ) (f : ℕ → List ℤ) (g : ℕ → ℤ) (dc low high dc' low' high' z : List ℤ)
-    → Replaced (λ s. s ≡ m) (λ s. z) (zerosOf dc low) (zerosOf dc' low') → Placed (240 * m) 240 g high high'
+    → Replaced (λ s. s ≡ m) (λ s. z) (blockIn dc low) (blockIn dc' low') → Placed (240 * m) 240 g high high'
     → ((t : ℕ) → length (f t) ≡ 16) → ((t : ℕ) → t / 16 ≡ m → at z (t % 16) ≡ at (f t) 0) → ((t k : ℕ) → t / 16 ≡ m → k < 15 → g (15 * (t % 16) + k) ≡ at (f t) (k + 1))
     → Replaced (λ t. t / 16 ≡ m) f (blockOf dc low high) (blockOf dc' low' high')
 unfolding blockOf

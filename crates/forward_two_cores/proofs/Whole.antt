@@ -4,7 +4,6 @@ use Prim.Native.Nat.{ℕ, _+_, _*_, _/_, _%_, _<_}
 use mathlib.Core.Path.{_≡_, refl, sym, _∙_, ap}
 use mathlib.Core.List.{List}
 use native.Mathlib.Omega.{arith}
-use native.Mathlib.Nat.{mod-lt, div-lt-iff-lt-mul, mul-le-mul-right}
 use lib.ListN.{length}
 use lib.IntN.{ℤ}
 use Rattle.lifting.specs.Program.{at, get, undo}
@@ -13,13 +12,13 @@ use Rattle.lifting.proofs.Locality.{agree-refl}
 use Rattle.figures.specs.Figures.{core}
 use Rattle.picture.specs.Level.{cell, square, coreAt, cores}
 use Rattle.picture.specs.Planes.{table, place, grid, coefficients, blockOrder, firstGrid, secondGrid}
-use Rattle.picture.proofs.Table.{at-table, table-same}
+use Rattle.picture.proofs.Table.{at-table}
 use Rattle.picture.proofs.Geometry.{block-of-order, order-low}
-use Rattle.picture.proofs.Grid.{grid-is, length-grid, at-first, at-second}
-use Rattle.picture.proofs.Squares.{square-places}
+use Rattle.picture.proofs.Grid.{grid-is, at-first}
 use Rattle.picture.proofs.Alone.{core-alone, core-undone-at}
-use Rattle.forward_two_cores.specs.Blocks.{zerosOf, blockOf, squareIn}
-use Rattle.forward_two_cores.proofs.Stores.{same-block}
+use Rattle.forward_kernel.specs.Placed.{blockIn}
+use Rattle.forward_two_cores.specs.Blocks.{blockOf, squareIn}
+use Rattle.forward_kernel.proofs.Stores.{same-block}
 
 -- the numbers of square s of a grid p squares wide
 abbrev squareOfGrid : ℕ → ℕ → List ℤ → List ℤ
@@ -39,8 +38,8 @@ module _ {W : ℕ} (wide : 0 < W) (H : ℕ) (tall : 0 < H) where
   -- ---- level two: the blocks in the order of the high-pass plane
 
   -- the number that level one has at a block's place is one of its macroblock's
-  view-is : (dc low : List ℤ) (b : ℕ) → b < 16 * (W * H) → at (firstGrid W H dc low) b ≡ at (zerosOf dc low (blockOrder W b / 16)) (blockOrder W b % 16)
-  unfolding zerosOf
+  view-is : (dc low : List ℤ) (b : ℕ) → b < 16 * (W * H) → at (firstGrid W H dc low) b ≡ at (blockIn dc low (blockOrder W b / 16)) (blockOrder W b % 16)
+  unfolding blockIn
   view-is dc low b h =
       let t = blockOrder W b in
       let l = order-low wide H b h in

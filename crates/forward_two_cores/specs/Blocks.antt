@@ -7,15 +7,11 @@ use lib.ListN.{length}
 use Rattle.lifting.specs.Program.{at, get}
 use Rattle.picture.specs.Level.{cell, square}
 use Rattle.picture.specs.Planes.{table, coefficients, blockAt}
-use Rattle.forward_kernel.specs.Placed.{undoneAt}
+use Rattle.forward_kernel.specs.Placed.{blockIn, undoneAt}
 
--- a macroblock's DC and low-pass numbers, which are the coefficients 0 of its sixteen blocks
-unfoldable pub zerosOf : List ℤ → List ℤ → ℕ → List ℤ
-zerosOf dc low m = table 16 (coefficients (at dc m) (λ k. at low (15 * m + k)))
-
--- block t, in the order of the high-pass plane
+-- block t, in the order of the high-pass plane; the coefficients 0 of a macroblock's sixteen blocks are its DC and low-pass numbers, as a block of level one
 unfoldable pub blockOf : List ℤ → List ℤ → List ℤ → ℕ → List ℤ
-blockOf dc low high t = table 16 (coefficients (at (zerosOf dc low (t / 16)) (t % 16)) (λ k. at high (15 * t + k)))
+blockOf dc low high t = table 16 (coefficients (at (blockIn dc low (t / 16)) (t % 16)) (λ k. at high (15 * t + k)))
 
 -- the same block's square in the samples of a picture W macroblocks wide
 unfoldable pub squareIn : ℕ → List ℤ → ℕ → List ℤ

@@ -7,7 +7,8 @@ ghost use Rattle.figures.specs.Figures.{core};
 ghost use Rattle.picture.specs.Level.{cores};
 ghost use Rattle.picture.specs.Planes.{firstGrid, secondGrid};
 ghost use Rattle.picture.specs.Sizes.{macroblocks, Sized};
-ghost use Rattle.forward_two_cores.specs.Blocks.{zerosOf, blockOf, squareIn, undoneIn, Among, Replaced, Elsewhere};
+ghost use Rattle.forward_kernel.specs.Placed.{blockIn};
+ghost use Rattle.forward_two_cores.specs.Blocks.{blockOf, squareIn, undoneIn, Among, Replaced, Elsewhere};
 use forward_kernel::undo_four_cores;
 use grid::put_four;
 use picture::size::Size;
@@ -16,7 +17,7 @@ use picture::size::Size;
 fn put_zeros(dc: &mut [i32], low: &mut [i32], m: usize, z: &[i32])
     requires { ⌜ (m < length (now dc)) × (15 * m + 14 < length (now low)) ⌝ }
     requires { ⌜ length (now z) ≡ 16 ⌝ }
-    ensures { λ u. ⌜ Replaced (λ s. s ≡ m) (λ s. now (z .entry)) (zerosOf (now (dc .entry)) (now (low .entry))) (zerosOf (now (dc .exit)) (now (low .exit))) ⌝ }
+    ensures { λ u. ⌜ Replaced (λ s. s ≡ m) (λ s. now (z .entry)) (blockIn (now (dc .entry)) (now (low .entry))) (blockIn (now (dc .exit)) (now (low .exit))) ⌝ }
 {
     dc[m] = z[0];
     for k in 0..15 {

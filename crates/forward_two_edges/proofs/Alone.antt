@@ -11,9 +11,9 @@ use Rattle.lifting.specs.Program.{Program, end, apply, SquareFilter, FourFilter
 use Rattle.lifting.proofs.Between.{All, none-left}
 use Rattle.lifting.proofs.Locality.{Agree, use-inside, use-outside}
 use Rattle.figures.specs.Figures.{squareFilter, fourFilter}
-use Rattle.picture.specs.Level.{cell, strip, square, squareFilterAt, fourFilterAt, squareFilters, rowFilters, columnFilters, filters}
+use Rattle.picture.specs.Level.{cell, strip, square, squareFilterAt, fourFilterAt, squareFilters, rowFilters, columnFilters, edges, filters}
 use Rattle.picture.proofs.Cells.{all-strip, all-square}
-use Rattle.picture.proofs.Alone.{Does, nothing-then, then-nothing, one-of, then-then}
+use Rattle.picture.proofs.Alone.{Does, nothing-then, then-nothing, one-of}
 use Rattle.forward_two_edges.specs.Unfiltered.{Rectangle, Edge}
 
 -- ---- places of a use by row and column
@@ -58,13 +58,6 @@ four-ways n zero h e = inl refl
 four-ways n (suc zero) h e = inr (inl refl)
 four-ways n (suc (suc y)) h (inl e) = absurd (omega (arith, e))
 four-ways n (suc (suc y)) h (inr e) = by-cases (ℕ-discrete (suc (suc y)) (4 * n - 2)) (λ g. inr (inr (inl g))) (λ g. inr (inr (inr (omega (arith, e, g, h)))))
-
-abbrev edges : ℕ → (ℕ → Program) → Program
-edges n f = f 0 then f 1 then f (4 * n - 2) then f (4 * n - 1)
-
-filters-are : (p q : ℕ) → filters p q ≡ squareFilters p q then (edges q (rowFilters p) then edges p (columnFilters p q))
-unfolding filters
-filters-are p q = rw (then-then, then-then, then-then)
 
 -- ---- a rectangle of a grid of p by q squares, and uses outside it
 
@@ -151,10 +144,6 @@ module _ {C : ℕ → Type 0} where
       which (inr (inr (inr h))) =
           later (first (λ k. omega (arith, h, k))) (later (second (λ k. omega (arith, h, k))) (later (third (λ k. omega (arith, h, k))) (mine (4 * n - 1) h)))
 
-  -- the filters: squares, edges of rows, edges of columns
-  all-of : (p q : ℕ) {e : Program} → Does C (squareFilters p q then (edges q (rowFilters p) then edges p (columnFilters p q))) e → Does C (filters p q) e
-  all-of p q {e} d = subst (λ a. Does C a e) (sym (filters-are p q)) d
-
 -- ---- the places of a use lie in its rectangle
 
 module _ (p r c : ℕ) where
@@ -197,8 +186,8 @@ columnUse p x j = apply FourFilter fourFilter (strip (4 * p) (cell p (4 * j + 2)
 
 pub square-alone : (p q j i : ℕ) → j < q - 1 → i < p - 1
     → Does (Rectangle p (4 * j + 2) (4 * j + 2 + 4) (4 * i + 2) (4 * i + 2 + 4)) (filters p q) (squareFilterAt (4 * p) (cell p (4 * j + 2) (4 * i + 2)))
-unfolding squareFilterAt squareFilters
-square-alone p q j i hj hi = all-of p q (now own (none rows columns))
+unfolding squareFilterAt squareFilters filters
+square-alone p q j i hj hi = now own (none rows columns)
   where
     mine : Does (SquareOf p j i) (squareUse p j i) (squareUse p j i)
     mine = use-inside (SquareOf p j i) SquareFilter squareFilter _ (square-within p (4 * j + 2) (4 * i + 2) (omega arith))
@@ -217,8 +206,8 @@ square-alone p q j i hj hi = all-of p q (now own (none rows columns))
 
 pub row-alone : (p q y i : ℕ) → y < 4 * q → Edge q y → i < p - 1
     → Does (Rectangle p y (y + 1) (4 * i + 2) (4 * i + 2 + 4)) (filters p q) (fourFilterAt 1 (cell p y (4 * i + 2)))
-unfolding fourFilterAt rowFilters
-row-alone p q y i hy edge hi = all-of p q (later squares (now rows columns))
+unfolding fourFilterAt rowFilters filters
+row-alone p q y i hy edge hi = later squares (now rows columns)
   where
     mine : Does (RowOf p y i) (rowUse p y i) (rowUse p y i)
     mine = use-inside (RowOf p y i) FourFilter fourFilter _ (row-within p y (4 * i + 2) (omega arith))
@@ -237,8 +226,8 @@ row-alone p q y i hy edge hi = all-of p q (later squares (now rows columns))
 
 pub column-alone : (p q x j : ℕ) → x < 4 * p → Edge p x → j < q - 1
     → Does (Rectangle p (4 * j + 2) (4 * j + 2 + 4) x (x + 1)) (filters p q) (fourFilterAt (4 * p) (cell p (4 * j + 2) x))
-unfolding fourFilterAt columnFilters
-column-alone p q x j hx edge hj = all-of p q (later squares (later rows columns))
+unfolding fourFilterAt columnFilters filters
+column-alone p q x j hx edge hj = later squares (later rows columns)
   where
     mine : Does (ColumnOf p x j) (columnUse p x j) (columnUse p x j)
     mine = use-inside (ColumnOf p x j) FourFilter fourFilter _ (column-within p (4 * j + 2) x hx)
@@ -257,7 +246,8 @@ column-alone p q x j hx edge hj = all-of p q (later squares (later rows columns)
 
 -- two edge rows by two edge columns
 pub corner-alone : (p q y x : ℕ) → 0 < p → 0 < q → Edge q y → Edge q (y + 1) → Edge p x → Edge p (x + 1) → Does (Rectangle p y (y + 2) x (x + 2)) (filters p q) end
-corner-alone p q y x wide tall ey ey' ex ex' = all-of p q (none squares (none rows columns))
+unfolding filters
+corner-alone p q y x wide tall ey ey' ex ex' = none squares (none rows columns)
   where
     in-two : (n z w k : ℕ) → Edge n z → Edge n (z + 1) → k < n - 1 → 4 * k + 2 ≤ w → w < 4 * k + 6 → z ≤ w → w < z + 2 → ⊥
     in-two n z w k e f h a c d g =

@@ -2,7 +2,7 @@
 use Prim.Native.Nat.{ℕ, zero, suc, _+_, _-_, _*_, _/_, _%_, _≤_, _<_}
 use mathlib.Core.Path.{_≡_, refl, sym, _∙_, ap, ap₂}
 use mathlib.Core.Logic.{by-cases}
-use mathlib.Core.List.{List, [], _∷_}
+use mathlib.Core.List.{List, []}
 use native.Mathlib.Omega.{arith}
 use native.Mathlib.Decide.{ℕ-discrete, decLt}
 use lib.ListN.{length, set}
@@ -11,12 +11,12 @@ use lib.IntN.{ℤ, pos}
 use Rattle.lifting.specs.Program.{at, put}
 use Rattle.figures.specs.Block.{four}
 use Rattle.picture.specs.Level.{strip as line}
-use Rattle.picture.specs.Planes.{table, coefficients}
+use Rattle.picture.specs.Planes.{coefficients}
 use Rattle.picture.proofs.Table.{at-table}
-use Rattle.forward_kernel.specs.Placed.{Placed}
+use Rattle.forward_kernel.specs.Placed.{Placed, blockIn}
 use Rattle.forward_kernel.proofs.Stores.{placed-none, placed-next, placed-after, four-placed, below-four}
-use Rattle.forward_two_cores.specs.Blocks.{zerosOf, blockOf, Among}
-use Rattle.forward_two_cores.proofs.Stores.{same-block}
+use Rattle.forward_two_cores.specs.Blocks.{blockOf}
+use Rattle.forward_kernel.proofs.Stores.{same-block}
 use Rattle.forward_two_edges.specs.Strip.{Kept}
 use Rattle.forward_two_edges.proofs.Strips.{kept-as, kept-then}
 use Rattle.forward_two_parked.specs.Parked.{placeIn, Parked, Fetched, ZerosParked, RestParked}
@@ -28,17 +28,17 @@ same-number x y f g zero e h = e
 same-number x y f g (suc j) e h = h j (omega arith)
 
 module _ (dc low high : List ℤ) where
-  pub zero-at : (m k : ℕ) → k < 16 → at (zerosOf dc low m) k ≡ coefficients (at dc m) (λ i. at low (15 * m + i)) k
-  unfolding zerosOf
+  pub zero-at : (m k : ℕ) → k < 16 → at (blockIn dc low m) k ≡ coefficients (at dc m) (λ i. at low (15 * m + i)) k
+  unfolding blockIn
   zero-at m k h = at-table 16 (coefficients (at dc m) (λ i. at low (15 * m + i))) k h
 
-  pub block-at : (t j : ℕ) → j < 16 → at (blockOf dc low high t) j ≡ coefficients (at (zerosOf dc low (t / 16)) (t % 16)) (λ i. at high (15 * t + i)) j
+  pub block-at : (t j : ℕ) → j < 16 → at (blockOf dc low high t) j ≡ coefficients (at (blockIn dc low (t / 16)) (t % 16)) (λ i. at high (15 * t + i)) j
   unfolding blockOf
-  block-at t j h = at-table 16 (coefficients (at (zerosOf dc low (t / 16)) (t % 16)) (λ i. at high (15 * t + i))) j h
+  block-at t j h = at-table 16 (coefficients (at (blockIn dc low (t / 16)) (t % 16)) (λ i. at high (15 * t + i))) j h
 
-  pub block-of : (m k j : ℕ) (x : ℤ) → k < 16 → j < 16 → x ≡ at (zerosOf dc low m) k → coefficients x (λ i. at high (240 * m + 15 * k + i)) j ≡ at (blockOf dc low high (16 * m + k)) j
+  pub block-of : (m k j : ℕ) (x : ℤ) → k < 16 → j < 16 → x ≡ at (blockIn dc low m) k → coefficients x (λ i. at high (240 * m + 15 * k + i)) j ≡ at (blockOf dc low high (16 * m + k)) j
   block-of m k j x h l e =
-      same-number x _ _ _ j (e ∙ ap₂ (λ (a b : ℕ). at (zerosOf dc low a) b) (omega arith) (omega arith)) (λ i q. ap (at high) (omega arith)) ∙ sym (block-at (16 * m + k) j l)
+      same-number x _ _ _ j (e ∙ ap₂ (λ (a b : ℕ). at (blockIn dc low a) b) (omega arith) (omega arith)) (λ i q. ap (at high) (omega arith)) ∙ sym (block-at (16 * m + k) j l)
 
 -- ---- to the strip
 
@@ -83,8 +83,8 @@ macroblocks-fetched blocks m n {old} {new} ln own kept before = record {
 
 pub zeros-parked : (m b : ℕ) (strip dc low : List ℤ) (x0 x1 x2 x3 : ℤ) → m < length dc → 15 * m + 14 < length low
     → x0 ≡ at strip (1152 + 16 * b) → x1 ≡ at strip (1152 + 16 * b + 4) → x2 ≡ at strip (1152 + 16 * b + 8) → x3 ≡ at strip (1152 + 16 * b + 12)
-    → ZerosParked m b strip (zerosOf dc low) (zerosOf (set dc m x0) (set (set (set low (15 * m) x1) (15 * m + 1) x2) (15 * m + 2) x3))
-unfolding zerosOf
+    → ZerosParked m b strip (blockIn dc low) (blockIn (set dc m x0) (set (set (set low (15 * m) x1) (15 * m + 1) x2) (15 * m + 2) x3))
+unfolding blockIn
 zeros-parked m b strip dc low x0 x1 x2 x3 room more e0 e1 e2 e3 =
     let f : ℕ → ℤ = λ i. at strip (1152 + 16 * b + 4 * (i + 1)) in
     let dc' = set dc m x0 in
@@ -120,7 +120,7 @@ rest-more m b n {strip} {old} {mid} {new} low p q = record {
 
 -- one more macroblock
 pub macroblocks-parked : (m n : ℕ) (dc low high dc' low' high' : List ℤ) {strip : List ℤ} {blocks : ℕ → List ℤ} → Parked m n strip blocks (blockOf dc low high)
-    → ZerosParked (m + n) n strip (zerosOf dc low) (zerosOf dc' low') → RestParked (m + n) n 4 strip high high' → Parked m (n + 1) strip blocks (blockOf dc' low' high')
+    → ZerosParked (m + n) n strip (blockIn dc low) (blockIn dc' low') → RestParked (m + n) n 4 strip high high' → Parked m (n + 1) strip blocks (blockOf dc' low' high')
 unfolding blockOf
 macroblocks-parked m n dc low high dc' low' high' {strip} {blocks} p z q = record {
   own = λ t b j h e k l. by-cases (ℕ-discrete b n)
@@ -129,8 +129,8 @@ macroblocks-parked m n dc low high dc' low' high' {strip} {blocks} p z q = recor
   others = λ t o. elsewhere t (λ f. o (omega (arith, f), omega (arith, f))) ∙ p .others t (λ f. o (omega (arith, f), omega (arith, f)));
 }
   where
-    mine : (t j : ℕ) → t / 16 ≡ m + n → t % 16 < 4 → j < 8 → coefficients (at (zerosOf dc' low' (t / 16)) (t % 16)) (λ i. at high' (15 * t + i)) j ≡ at strip (placeIn 16 n (t % 16) j)
-    mine t zero e k l = ap (λ (s : ℕ). at (zerosOf dc' low' s) (t % 16)) e ∙ z .own (t % 16) k ∙ ap (at strip) (omega arith)
+    mine : (t j : ℕ) → t / 16 ≡ m + n → t % 16 < 4 → j < 8 → coefficients (at (blockIn dc' low' (t / 16)) (t % 16)) (λ i. at high' (15 * t + i)) j ≡ at strip (placeIn 16 n (t % 16) j)
+    mine t zero e k l = ap (λ (s : ℕ). at (blockIn dc' low' s) (t % 16)) e ∙ z .own (t % 16) k ∙ ap (at strip) (omega arith)
     mine t (suc j) e k l = ap (at high') (omega (arith, e)) ∙ q .own (t % 16) j k (omega arith) ∙ ap (at strip) (omega arith)
 
     elsewhere : (t : ℕ) → (t / 16 ≡ m + n → ⊥) → blockOf dc' low' high' t ≡ blockOf dc low high t

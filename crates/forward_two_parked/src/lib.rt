@@ -4,8 +4,8 @@ ghost use Prim.Native.Nat.{ℕ, _+_, _*_, _/_, _%_, _<_, _≤_};
 ghost use lib.ListN.{length};
 ghost use Rattle.lifting.specs.Program.{at as number};
 ghost use Rattle.picture.specs.Planes.{coefficients};
-ghost use Rattle.forward_kernel.specs.Placed.{Placed};
-ghost use Rattle.forward_two_cores.specs.Blocks.{zerosOf, blockOf};
+ghost use Rattle.forward_kernel.specs.Placed.{Placed, blockIn};
+ghost use Rattle.forward_two_cores.specs.Blocks.{blockOf};
 ghost use Rattle.forward_two_edges.specs.Strip.{Kept};
 ghost use Rattle.forward_two_parked.specs.Parked.{placeIn, Parked, Fetched, ZerosParked, RestParked};
 use grid::get_four;
@@ -51,7 +51,7 @@ pub fn fetch(dc: &[i32], low: &[i32], high: &[i32], m: usize, n: usize, strip: &
 fn park_zeros(dc: &mut [i32], low: &mut [i32], m: usize, strip: &[i32], b: usize)
     requires { ⌜ (m < length (now dc)) × (15 * m + 14 < length (now low)) ⌝ }
     requires { ⌜ (b < 4) × (length (now strip) ≡ 1296) ⌝ }
-    ensures { λ u. ⌜ ZerosParked m b (now (strip .entry)) (zerosOf (now (dc .entry)) (now (low .entry))) (zerosOf (now (dc .exit)) (now (low .exit))) ⌝ }
+    ensures { λ u. ⌜ ZerosParked m b (now (strip .entry)) (blockIn (now (dc .entry)) (now (low .entry))) (blockIn (now (dc .exit)) (now (low .exit))) ⌝ }
 {
     let x = 1152 + 16 * b;
     dc[m] = strip[x];

@@ -1,8 +1,8 @@
 -- Parts of a level's filters that may run apart: rows of windows, as soon as the squares above and below them are transformed, and the filters of the edges.
 use Prim.Native.Nat.{ℕ, _+_, _-_, _*_}
 use mathlib.Core.Bool.{Bool, true, false}
-use Rattle.lifting.specs.Program.{Program, end, _then_, each}
-use Rattle.picture.specs.Level.{cell, squareFilterAt, rowFilters, columnFilters}
+use Rattle.lifting.specs.Program.{Program, end, each}
+use Rattle.picture.specs.Level.{cell, squareFilterAt, edgeFilters}
 
 -- the windows between rows j and j + 1 of the squares
 abbrev pub windowRow : ℕ → ℕ → Program
@@ -12,17 +12,6 @@ windowRow p j = each (p - 1) (λ i. squareFilterAt (4 * p) (cell p (4 * j + 2) (
 abbrev pub windowsIf : Bool → ℕ → ℕ → ℕ → Program
 windowsIf true p b n = each n (λ k. windowRow p (b + k))
 windowsIf false p b n = end
-
-unfoldable pub edgeFilters : ℕ → ℕ → Program
-edgeFilters p q =
-    rowFilters p 0
-    then rowFilters p 1
-    then rowFilters p (4 * q - 2)
-    then rowFilters p (4 * q - 1)
-    then columnFilters p q 0
-    then columnFilters p q 1
-    then columnFilters p q (4 * p - 2)
-    then columnFilters p q (4 * p - 1)
 
 abbrev pub edgesIf : Bool → ℕ → ℕ → Program
 edgesIf true p q = edgeFilters p q

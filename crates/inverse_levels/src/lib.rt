@@ -2,11 +2,11 @@
 mod windows; // windows.rt: windows of the square filter, up to four at a time
 
 ghost use mathlib.Core.Path.{_≡_};
-ghost use Prim.Native.Nat.{ℕ, _+_, _-_, _*_, _<_, _≤_};
+ghost use Prim.Native.Nat.{_+_, _-_, _*_, _<_, _≤_};
 ghost use lib.ListN.{length};
 ghost use Rattle.lifting.specs.Program.{run, each, _then_};
-ghost use Rattle.picture.specs.Level.{fourFilterAt, rowFilters, columnFilters};
-ghost use Rattle.inverse_levels.specs.Stages.{windowRow, windowsIf, edgeFilters, edgesIf};
+ghost use Rattle.picture.specs.Level.{fourFilterAt, rowFilters, columnFilters, edges as edgesOf, edgeFilters};
+ghost use Rattle.inverse_levels.specs.Stages.{windowRow, windowsIf, edgesIf};
 use crate::windows::four_windows;
 use four_filter::four_filter;
 use grid::get_four;
@@ -92,11 +92,21 @@ fn column_pair(grid: &mut [i32], p: usize, q: usize, c: usize)
     }
 }
 
+fn edge_rows(grid: &mut [i32], p: usize, q: usize)
+    requires { ⌜ 16 * (p * q) ≤ length (now grid) ⌝ }
+    requires { ⌜ (0 < p) × (p ≤ 2100) × (0 < q) × (q ≤ 1652) ⌝ }
+    ensures { λ r. ⌜ now (grid .exit) ≡ run (edgesOf q (rowFilters p)) (now (grid .entry)) ⌝ }
+{
+    row_filters(grid, p, q, 0);
+    row_filters(grid, p, q, 1);
+    row_filters(grid, p, q, 4 * q - 2);
+    row_filters(grid, p, q, 4 * q - 1);
+}
+
 fn edge_columns(grid: &mut [i32], p: usize, q: usize)
     requires { ⌜ 16 * (p * q) ≤ length (now grid) ⌝ }
     requires { ⌜ (0 < p) × (p ≤ 2100) × (0 < q) × (q ≤ 1652) ⌝ }
-    ensures { λ r. ⌜ now (grid .exit) ≡
-        run (columnFilters p q 0 then columnFilters p q 1 then columnFilters p q (4 * p - 2) then columnFilters p q (4 * p - 1)) (now (grid .entry)) ⌝ }
+    ensures { λ r. ⌜ now (grid .exit) ≡ run (edgesOf p (columnFilters p q)) (now (grid .entry)) ⌝ }
 {
     column_pair(grid, p, q, 0);
     column_pair(grid, p, q, 4 * p - 2);
@@ -107,10 +117,7 @@ fn edges(grid: &mut [i32], p: usize, q: usize)
     requires { ⌜ (0 < p) × (p ≤ 2100) × (0 < q) × (q ≤ 1652) ⌝ }
     ensures { λ r. ⌜ now (grid .exit) ≡ run (edgeFilters p q) (now (grid .entry)) ⌝ }
 {
-    row_filters(grid, p, q, 0);
-    row_filters(grid, p, q, 1);
-    row_filters(grid, p, q, 4 * q - 2);
-    row_filters(grid, p, q, 4 * q - 1);
+    edge_rows(grid, p, q);
     edge_columns(grid, p, q);
 }
 

@@ -16,7 +16,7 @@ use Rattle.picture.proofs.Table.{table-same}
 use Rattle.picture.proofs.Grid.{grid-is, at-grid, length-grid}
 use Rattle.picture.proofs.Squares.{square-places}
 use Rattle.picture.proofs.Alone.{coresOfRow, other-rows, core-run-at}
-use Rattle.inverse_levels.specs.Stages.{edgeFilters, edgesIf}
+use Rattle.inverse_levels.specs.Stages.{edgesIf}
 use Rattle.inverse_levels.proofs.Loops.{then-more}
 use Rattle.inverse_two.specs.Blocks.{blockNumbers, cored}
 use Rattle.inverse_two.proofs.Windows.{squaresIf}
@@ -36,6 +36,6 @@ module _ {p : ℕ} (wide : 0 < p) (q : ℕ) where
 -- the blocks' core transforms, all square filters and the edges are level two
 pub level-two-is : (filtered : Bool) (W H : ℕ) → 0 < W → (view high : List ℤ) {v u : List ℤ} → v ≡ run (squaresIf filtered (4 * W) (4 * H)) (grid (4 * W) (4 * H) (cored (blockNumbers W view high)))
     → u ≡ run (edgesIf filtered (4 * W) (4 * H)) v → u ≡ run (level filtered (4 * W) (4 * H)) (secondGrid W H view high)
-unfolding level filters edgeFilters run secondGrid
+unfolding level filters run secondGrid
 level-two-is true W H wide view high a b = then-more _ _ _ (grid-cored {p = 4 * W} (omega arith) (4 * H) (blockNumbers W view high)) (then-more _ _ _ a b)
 level-two-is false W H wide view high a b = then-more _ _ _ (grid-cored {p = 4 * W} (omega arith) (4 * H) (blockNumbers W view high)) (b ∙ a)

@@ -1,6 +1,6 @@
 -- Four blocks through the lanes: what is held in each is what its block has, and what is moved out are their core transforms.
 use Prim.Native.Nat.{ℕ, zero, suc, _+_, _-_, _*_, _<_}
-use mathlib.Core.Path.{_≡_, sym, _∙_, ap}
+use mathlib.Core.Path.{_≡_, _∙_, ap}
 use mathlib.Core.List.{List, [], _∷_}
 use native.Mathlib.Omega.{arith}
 use lib.ListN.{length}
@@ -14,7 +14,7 @@ use Rattle.picture.specs.Level.{strip, square}
 use Rattle.picture.specs.Planes.{table, coefficients}
 use Rattle.lanes.specs.Lanes.{Holds, Placed}
 use Rattle.lanes.proofs.Rows.{four-numbers, joined}
-use Rattle.inverse_two.specs.Blocks.{blockAt, blockInLane, FourBlocks}
+use Rattle.inverse_two.specs.Blocks.{blockFrom, blockInLane, FourBlocks}
 
 pub length-core : (v : List ℤ) → length (run core v) ≡ 16
 unfolding run core coreStages get
@@ -25,7 +25,7 @@ top-row a b c d = rw (a, b, c, d)
 
 -- a block put together from its coefficient 0 and four rows
 pub block-read : (z z' x y w : ℤ) (p q r s a b c d : List ℤ) (i : ℕ) → z ≡ z' → x ≡ at p 0 → y ≡ at p 1 → w ≡ at p 2 → four p ≡ get (strip 1 i) a → four q ≡ get (strip 1 i) b → four r ≡ get (strip 1 i) c → four s ≡ get (strip 1 i) d
-    → flat ((z ∷ x ∷ y ∷ w ∷ []) ∷ q ∷ r ∷ s ∷ []) ≡ blockAt z' a b c d i
+    → flat ((z ∷ x ∷ y ∷ w ∷ []) ∷ q ∷ r ∷ s ∷ []) ≡ blockFrom z' a b c d i
 unfolding flat get
 block-read z z' x y w p q r s a b c d i o e f g h k l m = joined (top-row o (e ∙ place 0 h) (f ∙ place 1 h) (g ∙ place 2 h)) k l m
 

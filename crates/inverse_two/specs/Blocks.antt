@@ -28,12 +28,12 @@ abbrev pub RowsCored : ℕ → List ℤ → List ℤ → ℕ → ℕ → List �
 RowsCored W high old y e v = Filled (4 * W) (cored (blockNumbers W old high)) old (InRows W y e) v
 
 -- a block in lanes, its numbers from place i on: coefficient 0 by itself, and coefficients 1 to 4, 4 to 7, 8 to 11 and 12 to 15 in four rows
-abbrev pub blockAt : ℤ → List ℤ → List ℤ → List ℤ → List ℤ → ℕ → List ℤ
-blockAt zero a b c d i = (zero ∷ at a i ∷ at a (i + 1) ∷ at a (i + 1 + 1) ∷ []) ++ get (strip 1 i) b ++ get (strip 1 i) c ++ get (strip 1 i) d
+abbrev pub blockFrom : ℤ → List ℤ → List ℤ → List ℤ → List ℤ → ℕ → List ℤ
+blockFrom zero a b c d i = (zero ∷ at a i ∷ at a (i + 1) ∷ at a (i + 1 + 1) ∷ []) ++ get (strip 1 i) b ++ get (strip 1 i) c ++ get (strip 1 i) d
 
 -- the block of lane l
 abbrev pub blockInLane : List ℤ → List ℤ → List ℤ → List ℤ → List ℤ → ℕ → List ℤ
-blockInLane zeros a b c d l = blockAt (at zeros l) a b c d (12 - 4 * l)
+blockInLane zeros a b c d l = blockFrom (at zeros l) a b c d (12 - 4 * l)
 
 -- four blocks b to b + 3 side by side, whose high-pass numbers stand from `from` on: their squares, the first at `first`, hold their core transforms
 pub record FourBlocks (old high : List ℤ) (w first b from : ℕ) (v : List ℤ) : Type 0 where

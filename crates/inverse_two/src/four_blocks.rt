@@ -6,7 +6,7 @@ ghost use Rattle.lifting.specs.Program.{run, get};
 ghost use Rattle.figures.specs.Block.{flat};
 ghost use Rattle.figures.specs.Figures.{core as coreLines};
 ghost use Rattle.picture.specs.Level.{square};
-ghost use Rattle.inverse_two.specs.Blocks.{blockAt, blockInLane, FourBlocks};
+ghost use Rattle.inverse_two.specs.Blocks.{blockFrom, blockInLane, FourBlocks};
 use core_transform::core;
 use grid::get_four;
 use grid::put_square;
@@ -16,7 +16,7 @@ use lanes::move_squares;
 // The block of the lane whose numbers stand from `at` on: coefficient 0, then coefficients 1 to 4, 4 to 7, 8 to 11 and 12 to 15, of which 4 stands there twice.
 fn block(zero: i32, a: &[i32], b: &[i32], c: &[i32], d: &[i32], at: usize) -> [[i32; 4]; 4]
     requires { ⌜ (at + 3 < length (now a)) × (at + 3 < length (now b)) × (at + 3 < length (now c)) × (at + 3 < length (now d)) ⌝ }
-    ensures { λ r. ⌜ flat r ≡ blockAt zero (now (a .entry)) (now (b .entry)) (now (c .entry)) (now (d .entry)) at ⌝ }
+    ensures { λ r. ⌜ flat r ≡ blockFrom zero (now (a .entry)) (now (b .entry)) (now (c .entry)) (now (d .entry)) at ⌝ }
 {
     let first = get_four(a, 1, at);
     let top = [zero, first[0], first[1], first[2]];

@@ -1,6 +1,6 @@
 -- Pieces of a list, filled one after another: what is put in one is read there again, and the others stay, since no place is in two.
 -- The pieces are the squares side by side in 64 numbers of 16 columns, or the lanes of a row of sixteen.
-use Prim.Native.Nat.{ℕ, zero, suc, _+_, _-_, _*_, _/_, _%_, _<_}
+use Prim.Native.Nat.{ℕ, _+_, _-_, _*_, _/_, _%_, _<_}
 use mathlib.Core.Path.{_≡_, refl, sym, _∙_, ap}
 use mathlib.Core.Logic.{by-cases}
 use mathlib.Core.List.{List}

@@ -29,13 +29,6 @@ then-end (l ⨾ a) = rw (then-end a)
 then-end (reorder to back a) = rw (then-end a)
 then-end (apply o s ps a) = rw (then-end a)
 
-pub then-then : (a b c : Program) → (a then b) then c ≡ a then (b then c)
-unfolding _then_
-then-then end b c = refl
-then-then (l ⨾ a) b c = rw (then-then a b c)
-then-then (reorder to back a) b c = rw (then-then a b c)
-then-then (apply o s ps a) b c = rw (then-then a b c)
-
 module _ (P : ℕ → Type 0) where
   pub nothing-then : (a b d : Program) → Does P a end → Does P b d → Does P (a then b) d
   unfolding _then_

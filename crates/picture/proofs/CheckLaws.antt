@@ -162,8 +162,9 @@ module _ (mode : ℕ) (size : Size) (rest : List ℕ) where
     pub ready-number : {r : ℕ} → r ≡ firstOf rest → r ≡ firstOf (shapeChecks mode size ++ rest)
     ready-number f = f ∙ sym (passed-first (shapeChecks mode size) rest refl (ready (firstOf (shapeChecks mode size)) mode m e .0))
 
-    pub ready-mode : m ≡ modeOf mode
-    ready-mode = ready (firstOf (shapeChecks mode size)) mode m e .1
+    pub ready-call : {A : Type 0} (result : Mode → A) (was : A) {r : ℕ} {now : A} → r ≡ firstOf rest → now ≡ settled r (result m) was
+        → (r ≡ firstOf (shapeChecks mode size ++ rest)) × (now ≡ settled r (result (modeOf mode)) was)
+    ready-call result was {r} f g = (ready-number f, g ∙ ap (λ (k : Mode). settled r (result k) was) (ready (firstOf (shapeChecks mode size)) mode m e .1))
 
     pub ready-sized : Sized size
     ready-sized = shaped mode size (ready (firstOf (shapeChecks mode size)) mode m e .0) .sized

@@ -254,13 +254,9 @@ module _ (p k P q : ℕ) (fits : k + p ≤ P) (Q : ℕ → ℕ → Type 0) (deci
   unfolding filters
   filters-like =
       both squares-like
-      (both (rows-like 0 (omega arith))
-      (both (rows-like 1 (omega arith))
-      (both (rows-like (4 * q - 2) (omega arith))
-      (both (rows-like (4 * q - 1) (omega arith))
-      (both (left-columns 0 (omega arith))
-      (both (left-columns 1 (omega arith))
-      (both (right-columns 2 (omega arith) (omega arith)) (right-columns 1 (omega arith) (omega arith)))))))))
+      (both
+      (both (rows-like 0 (omega arith)) (both (rows-like 1 (omega arith)) (both (rows-like (4 * q - 2) (omega arith)) (rows-like (4 * q - 1) (omega arith)))))
+      (both (left-columns 0 (omega arith)) (both (left-columns 1 (omega arith)) (both (right-columns 2 (omega arith) (omega arith)) (right-columns 1 (omega arith) (omega arith))))))
     where
       both : {a b c d : Program} → Like (Alike FilterTwins) a c → Like (Alike FilterTwins) b d → Like (Alike FilterTwins) (a then b) (c then d)
       both {a} {b} {c} {d} f g = like-then (Alike FilterTwins) a b c d f g

@@ -12,7 +12,7 @@ use mir.Val.{SFits}
 use mir.Syntax.{w32}
 use Rattle.lifting.specs.Row.{Row}
 use Rattle.lifting.specs.Wrap.{wrap}
-use Rattle.lifting.specs.Program.{Program, end, _⨾_, reorder, apply, at, run, line, value, get, put, _then_, each}
+use Rattle.lifting.specs.Program.{end, at, run, line, value, get, put, _then_, each}
 use Rattle.figures.specs.Figures.{hadamard, odd, oddOdd, core, coreStages, rotation, scale, postHadamard, postOddOdd, fourFilter, squareFilter}
 use Rattle.picture.specs.declared.size.Size.{Size}
 use Rattle.picture.specs.Level.{square, coreAt, squareFilterAt, fourFilterAt, cores, squareFilters, rowFilters, columnFilters, filters, level}
@@ -140,4 +140,4 @@ one-across q = rw (each-end (q - 1))
 
 pub one-down : (p : ℕ) → filters p 1 ≡ rowFilters p 0 then rowFilters p 1 then rowFilters p 2 then rowFilters p 3
 unfolding filters squareFilters columnFilters each _then_
-one-down p = rw (then-end (rowFilters p 3))
+one-down p = then-end (rowFilters p 0 then rowFilters p 1 then rowFilters p 2 then rowFilters p 3)

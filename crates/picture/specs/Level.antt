@@ -41,18 +41,16 @@ rowFilters p r = each (p - 1) (λ i. fourFilterAt 1 (cell p r (4 * i + 2)))
 unfoldable pub columnFilters : ℕ → ℕ → ℕ → Program
 columnFilters p q c = each (q - 1) (λ j. fourFilterAt (4 * p) (cell p (4 * j + 2) c))
 
--- the squares, the top two and bottom two rows, the two leftmost and two rightmost columns; the corners stay unfiltered
+-- a line of filters in each of the first two and the last two of 4 n lines
+abbrev pub edges : ℕ → (ℕ → Program) → Program
+edges n line = line 0 then line 1 then line (4 * n - 2) then line (4 * n - 1)
+
+-- the top two and bottom two rows, and the two leftmost and two rightmost columns; the corners stay unfiltered
+abbrev pub edgeFilters : ℕ → ℕ → Program
+edgeFilters p q = edges q (rowFilters p) then edges p (columnFilters p q)
+
 unfoldable pub filters : ℕ → ℕ → Program
-filters p q =
-    squareFilters p q
-    then rowFilters p 0
-    then rowFilters p 1
-    then rowFilters p (4 * q - 2)
-    then rowFilters p (4 * q - 1)
-    then columnFilters p q 0
-    then columnFilters p q 1
-    then columnFilters p q (4 * p - 2)
-    then columnFilters p q (4 * p - 1)
+filters p q = squareFilters p q then edgeFilters p q
 
 abbrev pub filtersIf : Bool → ℕ → ℕ → Program
 filtersIf true p q = filters p q

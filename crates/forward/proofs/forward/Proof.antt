@@ -1,5 +1,5 @@
 -- The checks of mode and size refuse, or give the mode; then those of the lengths decide.
-use mathlib.Core.Path.{_≡_, sym, _∙_, ap}
+use mathlib.Core.Path.{sym, _∙_}
 use mathlib.Core.List.{List, _++_}
 use Prim.Native.Nat.{ℕ}
 use borrow.Author.Needs.{needs}
@@ -7,9 +7,9 @@ use Rattle.picture.specs.declared.mode.Mode.{Mode}
 use Rattle.picture.specs.Sizes.{macroblocks}
 use Rattle.picture.specs.Modes.{modeOf}
 use Rattle.picture.specs.Planes.{Planes, planes}
-use Rattle.picture.specs.Numbers.{settled, planeChecks, sampleCheck, forwardNumber}
+use Rattle.picture.specs.Numbers.{planeChecks, sampleCheck, forwardNumber}
 use Rattle.picture.specs.Transform.{forwardBy}
-use Rattle.picture.proofs.CheckLaws.{refused-call, ready-number, ready-mode, ready-sized}
+use Rattle.picture.proofs.CheckLaws.{refused-call, ready-call, ready-sized}
 use Rattle.forward.proofs.forward.Statement.{statement}
 use Rattle.forward.proofs.forward.Tie as tie
 
@@ -45,11 +45,7 @@ returns-2 c =
     let k = d .before .before .before .before .before in
     let n = k .before .before in
     let s = n .before in
-    let e = sym (k .known .given .1) ∙ n .check-shape .ensures in
-    let r = d .forward-sized .result in (
-      ready-number (s .args .mode) (s .args .size) (rest s) e (d .forward-sized .ensures .0),
-      d .forward-sized .ensures .1 ∙ ap (λ (m : Mode). settled r (result s m) (was s)) (ready-mode (s .args .mode) (s .args .size) (rest s) e),
-    )
+    ready-call (s .args .mode) (s .args .size) (rest s) (sym (k .known .given .1) ∙ n .check-shape .ensures) (result s) (was s) (d .forward-sized .ensures .0) (d .forward-sized .ensures .1)
 
 pub forward-spec : {M : Type 1} → statement M
 forward-spec =

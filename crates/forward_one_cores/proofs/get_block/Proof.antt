@@ -1,6 +1,6 @@
 -- Four numbers of the top row, and three rows of four.
 use Rattle.grid.proofs.Squares.{square-rows}
-use Rattle.forward_one_cores.specs.Blocks.{blockIn}
+use Rattle.forward_kernel.specs.Placed.{blockIn}
 use borrow.Author.Needs.{needs}
 use Rattle.forward_one_cores.proofs.get_block.Statement.{statement}
 use Rattle.forward_one_cores.proofs.get_block.Tie as tie

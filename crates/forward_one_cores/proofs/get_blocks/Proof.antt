@@ -4,7 +4,7 @@ use mathlib.Core.Path.{_≡_, sym, _∙_}
 use native.Mathlib.Omega.{arith}
 use lib.ListN.{length}
 use Rattle.lanes.proofs.Beside.{Beside, beside-more}
-use Rattle.forward_one_cores.specs.Blocks.{blockIn}
+use Rattle.forward_kernel.specs.Placed.{blockIn}
 use Rattle.forward_one_cores.proofs.Stores.{length-block}
 use Rattle.forward_one_cores.proofs.get_blocks.Statement.{statement}
 use Rattle.forward_one_cores.proofs.get_blocks.Tie as tie

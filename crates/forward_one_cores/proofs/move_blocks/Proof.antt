@@ -3,7 +3,8 @@ use Prim.Native.Nat.{_+_, _-_, _≤_}
 use mathlib.Core.Path.{_≡_, refl, _∙_, ap}
 use native.Mathlib.Omega.{arith}
 use lib.ListN.{length}
-use Rattle.forward_one_cores.specs.Blocks.{blockIn, Replaced}
+use Rattle.forward_kernel.specs.Placed.{blockIn}
+use Rattle.forward_one_cores.specs.Blocks.{Replaced}
 use Rattle.forward_one_cores.proofs.Stores.{replaced-none, replaced-as, replaced-more}
 use Rattle.forward_one_cores.proofs.move_blocks.Statement.{statement}
 use Rattle.forward_one_cores.proofs.move_blocks.Tie as tie

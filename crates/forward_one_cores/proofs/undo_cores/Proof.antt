@@ -5,7 +5,8 @@ use native.Mathlib.Omega.{arith}
 use lib.ListN.{length}
 use Rattle.lifting.specs.Program.{undo}
 use Rattle.figures.specs.Figures.{core}
-use Rattle.forward_one_cores.specs.Blocks.{blockIn, Replaced}
+use Rattle.forward_kernel.specs.Placed.{blockIn}
+use Rattle.forward_one_cores.specs.Blocks.{Replaced}
 use Rattle.forward_one_cores.proofs.Stores.{replaced-none, replaced-as, replaced-in-place}
 use Rattle.forward_one_cores.proofs.Whole.{all-undone}
 use Rattle.forward_one_cores.proofs.undo_cores.Statement.{statement}

@@ -5,7 +5,7 @@ use native.Mathlib.Omega.{arith}
 use borrow.Author.Needs.{needs}
 use Rattle.lifting.specs.Program.{undo}
 use Rattle.figures.specs.Figures.{core}
-use Rattle.forward_one_cores.specs.Blocks.{blockIn}
+use Rattle.forward_kernel.specs.Placed.{blockIn}
 use Rattle.forward_one_cores.proofs.Stores.{replaced-as, lane-undone}
 use Rattle.forward_one_cores.proofs.undo_group.Statement.{statement}
 use Rattle.forward_one_cores.proofs.undo_group.Tie as tie

@@ -8,7 +8,8 @@ use Rattle.lifting.specs.Program.{at}
 use Rattle.lifting.proofs.Bits.{back}
 use Rattle.figures.proofs.Parts.{kept}
 use Rattle.forward_kernel.proofs.Stores.{below-four}
-use Rattle.forward_two_cores.specs.Blocks.{zerosOf, blockOf}
+use Rattle.forward_kernel.specs.Placed.{blockIn}
+use Rattle.forward_two_cores.specs.Blocks.{blockOf}
 use Rattle.forward_two_edges.specs.Strip.{Kept}
 use Rattle.forward_two_edges.proofs.Strips.{kept-none, kept-as, kept-then}
 use Rattle.forward_two_parked.specs.Parked.{placeIn}
@@ -46,8 +47,8 @@ loop-again c =
     let dc = a .dc .now in
     let low = a .low .now in
     let zeros = kept (at dc (a .m)) ∷ kept (at low (15 * a .m)) ∷ kept (at low (15 * a .m + 1)) ∷ kept (at low (15 * a .m + 2)) ∷ [] in
-    let first : at zeros k ≡ at (zerosOf dc low (a .m)) k =
-    below-four (λ i. at zeros i ≡ at (zerosOf dc low (a .m)) i) (back (t1 .t11 .given) ∙ sym (zero-at dc low [] (a .m) 0 (omega arith))) (back (t2 .t15 .given) ∙ ap (at low) (omega arith) ∙ sym (zero-at dc low [] (a .m) 1 (omega arith)))
+    let first : at zeros k ≡ at (blockIn dc low (a .m)) k =
+    below-four (λ i. at zeros i ≡ at (blockIn dc low (a .m)) i) (back (t1 .t11 .given) ∙ sym (zero-at dc low [] (a .m) 0 (omega arith))) (back (t2 .t15 .given) ∙ ap (at low) (omega arith) ∙ sym (zero-at dc low [] (a .m) 1 (omega arith)))
     (back (t3 .t20 .given) ∙ sym (zero-at dc low [] (a .m) 2 (omega arith))) (back (t4 .t25 .given) ∙ sym (zero-at dc low [] (a .m) 3 (omega arith))) k few in (
       omega (arith, few),
       blocks-fetched (blockOf dc low (a .high .now)) (a .m) (a .b) k (s .pre .1 .0) few (λ j h. e .0 j h ∙ block-of dc low (a .high .now) (a .m) k j (kept (at zeros k)) (omega (arith, few)) (omega arith) (back (d .before .before .fetch-block-arg .given) ∙ first)) (e .1) (v .1),

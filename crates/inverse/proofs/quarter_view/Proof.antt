@@ -1,5 +1,5 @@
 -- The checks of mode and size refuse, or give the mode; then those of the lengths decide.
-use mathlib.Core.Path.{_≡_, sym, _∙_, ap}
+use mathlib.Core.Path.{sym, _∙_}
 use mathlib.Core.List.{List, _++_}
 use Prim.Native.Nat.{ℕ}
 use borrow.Author.Needs.{needs}
@@ -7,9 +7,9 @@ use lib.IntN.{ℤ}
 use Rattle.picture.specs.declared.mode.Mode.{Mode}
 use Rattle.picture.specs.Sizes.{macroblocks}
 use Rattle.picture.specs.Modes.{modeOf}
-use Rattle.picture.specs.Numbers.{settled, lowChecks, viewCheck, quarterNumber}
+use Rattle.picture.specs.Numbers.{lowChecks, viewCheck, quarterNumber}
 use Rattle.picture.specs.Transform.{quarterBy}
-use Rattle.picture.proofs.CheckLaws.{refused-call, ready-number, ready-mode, ready-sized}
+use Rattle.picture.proofs.CheckLaws.{refused-call, ready-call, ready-sized}
 use Rattle.inverse.proofs.quarter_view.Statement.{statement}
 use Rattle.inverse.proofs.quarter_view.Tie as tie
 
@@ -42,11 +42,7 @@ returns-2 c =
     let k = d .before .before .before in
     let n = k .before .before in
     let s = n .before in
-    let e = sym (k .known .given .1) ∙ n .check-shape .ensures in
-    let r = d .quarter-sized .result in (
-      ready-number (s .args .mode) (s .args .size) (rest s) e (d .quarter-sized .ensures .0),
-      d .quarter-sized .ensures .1 ∙ ap (λ (m : Mode). settled r (result s m) (s .args .view .now)) (ready-mode (s .args .mode) (s .args .size) (rest s) e),
-    )
+    ready-call (s .args .mode) (s .args .size) (rest s) (sym (k .known .given .1) ∙ n .check-shape .ensures) (result s) (s .args .view .now) (d .quarter-sized .ensures .0) (d .quarter-sized .ensures .1)
 
 pub quarter-view-spec : {M : Type 1} → statement M
 quarter-view-spec = tie.close (tie.spec (λ c κs. search needs) (λ c. search needs) (λ c. search needs) quarter-sized-requires returns (λ c. search needs) returns-2)

@@ -8,7 +8,7 @@ use Rattle.lifting.specs.Program.{run}
 use Rattle.figures.specs.Figures.{core}
 use Rattle.figures.proofs.Parts.{held}
 use Rattle.lanes.proofs.Beside.{Beside, beside-more}
-use Rattle.inverse_two.specs.Blocks.{blockAt, blockInLane}
+use Rattle.inverse_two.specs.Blocks.{blockFrom, blockInLane}
 use Rattle.inverse_two.proofs.Kernel.{length-core}
 use Rattle.inverse_two.proofs.four_blocks.four_cores.Statement.{statement}
 use Rattle.inverse_two.proofs.four_blocks.four_cores.Tie as tie
@@ -38,7 +38,7 @@ loop-again c =
     let s = l .before in
     let r = s .args in
     let its = blockInLane (r .zeros .now) (r .a .now) (r .b .now) (r .c .now) (r .d .now) in
-    let zero = ap (λ (z : ℤ). blockAt z (r .a .now) (r .b .now) (r .c .now) (r .d .now) (12 - 4 * l .loop .l)) (held (e .before .before .block-arg .given) refl) in
+    let zero = ap (λ (z : ℤ). blockFrom z (r .a .now) (r .b .now) (r .c .now) (r .d .now) (12 - 4 * l .loop .l)) (held (e .before .before .block-arg .given) refl) in
     let v = l .loop .inv in (
       omega (arith, more),
       d .put-square .kept .0 ∙ v .1,
