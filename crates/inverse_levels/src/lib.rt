@@ -72,8 +72,8 @@ fn row_filters(grid: &mut [i32], p: usize, q: usize, r: usize)
     ensures { λ o. ⌜ now (grid .exit) ≡ run (rowFilters p r) (now (grid .entry)) ⌝ }
 {
     let first = r * (4 * p) + 2;
-    let windows = p - 1;
-    for i in 0..windows {
+    let uses = p - 1;
+    for i in 0..uses {
         four_filter_at(grid, 1, first + 4 * i);
     }
 }
@@ -86,8 +86,8 @@ fn column_pair(grid: &mut [i32], p: usize, q: usize, c: usize)
 {
     let w = 4 * p;
     let first = 2 * w + c;
-    let windows = q - 1;
-    for j in 0..windows {
+    let uses = q - 1;
+    for j in 0..uses {
         four_filter_pair(grid, w, first + j * (4 * w));
     }
 }

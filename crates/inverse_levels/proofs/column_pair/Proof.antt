@@ -15,10 +15,10 @@ abbrev pair : ℕ → ℕ → ℕ → Program
 pair p c j = fourFilterAt (4 * p) (cell p (4 * j + 2) c) then fourFilterAt (4 * p) (cell p (4 * j + 2) (c + 1))
 
 abbrev Inv-loop : tie.InvT-loop
-Inv-loop grid₀ p q c w first windows j₀ grid j = (j ≤ q - 1) × (length grid ≡ length grid₀) × (grid ≡ run (each j (pair p c)) grid₀)
+Inv-loop grid₀ p q c w first uses j₀ grid j = (j ≤ q - 1) × (length grid ≡ length grid₀) × (grid ≡ run (each j (pair p c)) grid₀)
 
 abbrev μ-loop : tie.MeasureT-loop
-μ-loop grid₀ p q c w first windows j₀ grid j = q - j
+μ-loop grid₀ p q c w first uses j₀ grid j = q - j
 
 room : (c : tie.At-loop Inv-loop μ-loop) → c .loop .j < c .before .args .q - 1 → (c .loop .j + 1) * (16 * c .before .args .p) + 16 * c .before .args .p ≤ length (c .before .args .grid .now)
 room c h = let a = c .before .args in omega (arith, next-turn (c .loop .j + 1) (a .q) (16 * a .p) (omega arith))

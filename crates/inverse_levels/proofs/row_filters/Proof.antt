@@ -11,10 +11,10 @@ use Rattle.inverse_levels.proofs.row_filters.Statement.{statement}
 use Rattle.inverse_levels.proofs.row_filters.Tie as tie
 
 abbrev Inv-loop : tie.InvT-loop
-Inv-loop grid₀ p q r first windows i₀ grid i = (i ≤ p - 1) × (length grid ≡ length grid₀) × (grid ≡ run (each i (λ k. fourFilterAt 1 (cell p r (4 * k + 2)))) grid₀)
+Inv-loop grid₀ p q r first uses i₀ grid i = (i ≤ p - 1) × (length grid ≡ length grid₀) × (grid ≡ run (each i (λ k. fourFilterAt 1 (cell p r (4 * k + 2)))) grid₀)
 
 abbrev μ-loop : tie.MeasureT-loop
-μ-loop grid₀ p q r first windows i₀ grid i = p - i
+μ-loop grid₀ p q r first uses i₀ grid i = p - i
 
 room : (s : tie.Start Inv-loop μ-loop) → cell (s .args .p) (s .args .r) (4 * s .args .p) ≤ length (s .args .grid .now)
 room s = omega (arith, mul-le-mul-right (4 * s .args .p) (s .pre .1 .3))
