@@ -9,7 +9,7 @@ use Rattle.lifting.specs.Program.{Program, end, apply, FourFilter, undo, each, 
 use Rattle.lifting.proofs.Compose.{undo-then}
 use Rattle.figures.specs.Figures.{fourFilter}
 use Rattle.picture.specs.declared.size.Size.{Size}
-use Rattle.picture.specs.Level.{fourFilterAt, squareFilters, rowFilters, columnFilters, edges as edgesOf, filters}
+use Rattle.picture.specs.Level.{fourFilterAt, squareFilters, rowFilters, columnFilters, alongEdges, filters}
 use Rattle.picture.specs.Sizes.{Sized}
 use Rattle.forward_one_grid.proofs.Lines.{row-line, column-line}
 use Rattle.forward_one_filters.specs.Edges.{filterAcross, line, edges}
@@ -56,14 +56,14 @@ module _ (size : Size) (sized : Sized size) where
   column-is from l i c column e k f m g =
       rw (f, g) (each-same (H - 1) _ _ (λ j h. ap (λ ps. apply FourFilter fourFilter ps end) (column-line size (from + W * j) (from + W * j + W) j i c m (omega arith) refl k)))
 
-  rows-are : edges size ((H - 1) * W) 1 4 1 (W - 1) ≡ edgesOf H (rowFilters W)
+  rows-are : edges size ((H - 1) * W) 1 4 1 (W - 1) ≡ alongEdges H (rowFilters W)
   unfolding edges
   rows-are =
       let h = sized .tall in
       four-same (row-is 0 0 0 0 0 (omega arith) refl refl) (row-is 0 4 0 1 1 (omega arith) refl refl)
       (row-is ((H - 1) * W) (2 * 4) (H - 1) 2 (4 * H - 2) refl refl (omega arith)) (row-is ((H - 1) * W) (3 * 4) (H - 1) 3 (4 * H - 1) refl refl (omega arith))
 
-  columns-are : edges size (W - 1) W 1 4 (H - 1) ≡ edgesOf W (columnFilters W H)
+  columns-are : edges size (W - 1) W 1 4 (H - 1) ≡ alongEdges W (columnFilters W H)
   unfolding edges
   columns-are =
       let h = sized .wide in

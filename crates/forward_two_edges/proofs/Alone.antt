@@ -11,7 +11,7 @@ use Rattle.lifting.specs.Program.{Program, end, apply, SquareFilter, FourFilter
 use Rattle.lifting.proofs.Between.{All, none-left}
 use Rattle.lifting.proofs.Locality.{Agree, use-inside, use-outside}
 use Rattle.figures.specs.Figures.{squareFilter, fourFilter}
-use Rattle.picture.specs.Level.{cell, strip, square, squareFilterAt, fourFilterAt, squareFilters, rowFilters, columnFilters, edges, filters}
+use Rattle.picture.specs.Level.{cell, strip, square, squareFilterAt, fourFilterAt, squareFilters, rowFilters, columnFilters, alongEdges, filters}
 use Rattle.picture.proofs.Cells.{all-strip, all-square}
 use Rattle.picture.proofs.Alone.{Does, nothing-then, then-nothing, one-of}
 use Rattle.forward_two_edges.specs.Unfiltered.{Rectangle, Edge}
@@ -113,12 +113,12 @@ module _ {C : ℕ → Type 0} where
   now {a} {d} {e} f g = then-nothing C a d e f g
 
   -- the uses along the four edges of one direction: none of them, or those of one edge alone
-  none-of-four : (n : ℕ) (f : ℕ → Program) → 0 < n → ((y : ℕ) → y < 4 * n → Edge n y → Does C (f y) end) → Does C (edges n f) end
+  none-of-four : (n : ℕ) (f : ℕ → Program) → 0 < n → ((y : ℕ) → y < 4 * n → Edge n y → Does C (f y) end) → Does C (alongEdges n f) end
   none-of-four n f h g =
       none (g 0 (omega arith) (inl (omega arith))) (none (g 1 (omega arith) (inl (omega arith))) (none (g (4 * n - 2) (omega arith) (inr (omega arith))) (g (4 * n - 1) (omega arith) (inr (omega arith)))))
 
   one-of-four : {e : Program} (n : ℕ) (f : ℕ → Program) (y : ℕ) → y < 4 * n → Edge n y → Does C (f y) e
-      → ((z : ℕ) → z < 4 * n → Edge n z → (z ≡ y → ⊥) → Does C (f z) end) → Does C (edges n f) e
+      → ((z : ℕ) → z < 4 * n → Edge n z → (z ≡ y → ⊥) → Does C (f z) end) → Does C (alongEdges n f) e
   one-of-four {e} n f y hy edge d g = which (four-ways n y hy edge)
     where
       mine : (z : ℕ) → y ≡ z → Does C (f z) e
@@ -136,7 +136,7 @@ module _ {C : ℕ → Type 0} where
       fourth : (y ≡ 4 * n - 1 → ⊥) → Does C (f (4 * n - 1)) end
       fourth h = g (4 * n - 1) (omega arith) (inr (omega arith)) (λ k. h (sym k))
 
-      which : FourWays n y → Does C (edges n f) e
+      which : FourWays n y → Does C (alongEdges n f) e
       which (inl h) = now (mine 0 h) (none (second (λ k. omega (arith, h, k))) (none (third (λ k. omega (arith, h, k))) (fourth (λ k. omega (arith, h, k)))))
       which (inr (inl h)) = later (first (λ k. omega (arith, h, k))) (now (mine 1 h) (none (third (λ k. omega (arith, h, k))) (fourth (λ k. omega (arith, h, k)))))
       which (inr (inr (inl h))) =
@@ -198,10 +198,10 @@ square-alone p q j i hj hi = now own (none rows columns)
         (one-of (SquareOf p j i) (p - 1) i _ (squareUse p j i) hi mine (λ k h n. square-out p q j k h (λ y x e f g m e' f' g' m'. n (omega arith))))
         (λ k h n. none-left (Agree (SquareOf p j i)) (p - 1) _ (λ m o. square-out p q k m o (λ y x e f g u e' f' g' u'. n (omega arith))))
 
-    rows : Does (SquareOf p j i) (edges q (rowFilters p)) end
+    rows : Does (SquareOf p j i) (alongEdges q (rowFilters p)) end
     rows = none-of-four q (rowFilters p) (omega arith) (λ y h e. rows-out p q y (λ k x g m u e' f' g' u'. edge-off q j y hj e e' (omega arith)))
 
-    columns : Does (SquareOf p j i) (edges p (columnFilters p q)) end
+    columns : Does (SquareOf p j i) (alongEdges p (columnFilters p q)) end
     columns = none-of-four p (columnFilters p q) (omega arith) (λ x h e. columns-out p q x h (λ k y g m u e' f' g' u'. edge-off p i x hi e g' (omega arith)))
 
 pub row-alone : (p q y i : ℕ) → y < 4 * q → Edge q y → i < p - 1
@@ -218,10 +218,10 @@ row-alone p q y i hy edge hi = later squares (now rows columns)
     own : Does (RowOf p y i) (rowFilters p y) (rowUse p y i)
     own = one-of (RowOf p y i) (p - 1) i _ (rowUse p y i) hi mine (λ k h n. row-out p q y k h (λ x g m e' f' g' m'. n (omega arith)))
 
-    rows : Does (RowOf p y i) (edges q (rowFilters p)) (rowUse p y i)
+    rows : Does (RowOf p y i) (alongEdges q (rowFilters p)) (rowUse p y i)
     rows = one-of-four q (rowFilters p) y hy edge own (λ z h e n. rows-out p q z (λ k x g m u e' f' g' u'. n (omega arith)))
 
-    columns : Does (RowOf p y i) (edges p (columnFilters p q)) end
+    columns : Does (RowOf p y i) (alongEdges p (columnFilters p q)) end
     columns = none-of-four p (columnFilters p q) (omega arith) (λ x h e. columns-out p q x h (λ j z hj m u e' f' g' u'. edge-off q j y hj edge (omega arith) (omega arith)))
 
 pub column-alone : (p q x j : ℕ) → x < 4 * p → Edge p x → j < q - 1
@@ -235,13 +235,13 @@ column-alone p q x j hx edge hj = later squares (later rows columns)
     squares : Does (ColumnOf p x j) (squareFilters p q) end
     squares = squares-out p q (λ k i y z hk hi e f g m e' f' g' m'. edge-off p i x hi edge (omega arith) (omega arith))
 
-    rows : Does (ColumnOf p x j) (edges q (rowFilters p)) end
+    rows : Does (ColumnOf p x j) (alongEdges q (rowFilters p)) end
     rows = none-of-four q (rowFilters p) (omega arith) (λ y h e. rows-out p q y (λ i z hi m u e' f' g' u'. edge-off p i x hi edge (omega arith) (omega arith)))
 
     own : Does (ColumnOf p x j) (columnFilters p q x) (columnUse p x j)
     own = one-of (ColumnOf p x j) (q - 1) j _ (columnUse p x j) hj mine (λ k h n. column-out p q x k hx (λ y g m e' f' g' m'. n (omega arith)))
 
-    columns : Does (ColumnOf p x j) (edges p (columnFilters p q)) (columnUse p x j)
+    columns : Does (ColumnOf p x j) (alongEdges p (columnFilters p q)) (columnUse p x j)
     columns = one-of-four p (columnFilters p q) x hx edge own (λ z h e n. columns-out p q z h (λ k y g m u e' f' g' u'. n (omega arith)))
 
 -- two edge rows by two edge columns
@@ -256,8 +256,8 @@ corner-alone p q y x wide tall ey ey' ex ex' = none squares (none rows columns)
     squares : Does (CornerOf p y x) (squareFilters p q) end
     squares = squares-out p q (λ j i z w hj hi e f g m e' f' g' m'. in-two q y z j ey ey' hj e f e' f')
 
-    rows : Does (CornerOf p y x) (edges q (rowFilters p)) end
+    rows : Does (CornerOf p y x) (alongEdges q (rowFilters p)) end
     rows = none-of-four q (rowFilters p) tall (λ z h e. rows-out p q z (λ i w hi m u e' f' g' u'. in-two p x w i ex ex' hi m u g' u'))
 
-    columns : Does (CornerOf p y x) (edges p (columnFilters p q)) end
+    columns : Does (CornerOf p y x) (alongEdges p (columnFilters p q)) end
     columns = none-of-four p (columnFilters p q) wide (λ w h e. columns-out p q w h (λ j z hj m u e' f' g' u'. in-two q y z j ey ey' hj m u e' f'))

@@ -14,7 +14,7 @@ use Rattle.lifting.proofs.Compose.{run-then, undo-then}
 use Rattle.lifting.proofs.Between.{All, all-map, Like, none-left, like-all}
 use Rattle.lifting.proofs.Locality.{Agree, agree-refl, use-inside, use-outside}
 use Rattle.figures.specs.Figures.{fourFilter}
-use Rattle.picture.specs.Level.{cell, strip, fourFilterAt, columnFilters, edges}
+use Rattle.picture.specs.Level.{cell, strip, fourFilterAt, columnFilters, alongEdges}
 use Rattle.picture.proofs.Cells.{all-strip}
 use Rattle.picture.proofs.Table.{same-lists}
 use Rattle.inverse_levels.proofs.Loops.{then-more}
@@ -94,7 +94,7 @@ columns-apart p n c h =
 -- the two columns on the left, and then the two on the right
 pub pairs-of-columns : (p q : ℕ) (v w : List ℤ) {u : List ℤ} → 0 < p → w ≡ run (columnFilters p q 0 then columnFilters p q 1) v
     → u ≡ run (columnFilters p q (4 * p - 2) then columnFilters p q (4 * p - 2 + 1)) w
-    → u ≡ run (edges p (columnFilters p q)) v
+    → u ≡ run (alongEdges p (columnFilters p q)) v
 pairs-of-columns p q v w h a b =
     then-more (columnFilters p q 0) _ v refl
     (then-more (columnFilters p q 1) _ _ (a ∙ run-then (columnFilters p q 0) (columnFilters p q 1) v) (b ∙ ap (λ (c : ℕ). run (columnFilters p q (4 * p - 2) then columnFilters p q c) w) last))

@@ -5,7 +5,7 @@ ghost use mathlib.Core.Path.{_≡_};
 ghost use Prim.Native.Nat.{_+_, _-_, _*_, _<_, _≤_};
 ghost use lib.ListN.{length};
 ghost use Rattle.lifting.specs.Program.{run, each, _then_};
-ghost use Rattle.picture.specs.Level.{fourFilterAt, rowFilters, columnFilters, edges as edgesOf, edgeFilters};
+ghost use Rattle.picture.specs.Level.{fourFilterAt, rowFilters, columnFilters, alongEdges, edgeFilters};
 ghost use Rattle.inverse_levels.specs.Stages.{windowRow, windowsIf, edgesIf};
 use crate::windows::four_windows;
 use four_filter::four_filter;
@@ -95,7 +95,7 @@ fn column_pair(grid: &mut [i32], p: usize, q: usize, c: usize)
 fn edge_rows(grid: &mut [i32], p: usize, q: usize)
     requires { ⌜ 16 * (p * q) ≤ length (now grid) ⌝ }
     requires { ⌜ (0 < p) × (p ≤ 2100) × (0 < q) × (q ≤ 1652) ⌝ }
-    ensures { λ r. ⌜ now (grid .exit) ≡ run (edgesOf q (rowFilters p)) (now (grid .entry)) ⌝ }
+    ensures { λ r. ⌜ now (grid .exit) ≡ run (alongEdges q (rowFilters p)) (now (grid .entry)) ⌝ }
 {
     row_filters(grid, p, q, 0);
     row_filters(grid, p, q, 1);
@@ -106,7 +106,7 @@ fn edge_rows(grid: &mut [i32], p: usize, q: usize)
 fn edge_columns(grid: &mut [i32], p: usize, q: usize)
     requires { ⌜ 16 * (p * q) ≤ length (now grid) ⌝ }
     requires { ⌜ (0 < p) × (p ≤ 2100) × (0 < q) × (q ≤ 1652) ⌝ }
-    ensures { λ r. ⌜ now (grid .exit) ≡ run (edgesOf p (columnFilters p q)) (now (grid .entry)) ⌝ }
+    ensures { λ r. ⌜ now (grid .exit) ≡ run (alongEdges p (columnFilters p q)) (now (grid .entry)) ⌝ }
 {
     column_pair(grid, p, q, 0);
     column_pair(grid, p, q, 4 * p - 2);

@@ -12,7 +12,7 @@ use Rattle.figures.specs.Figures.{core, coreStages}
 use Rattle.figures.proofs.Parts.{place}
 use Rattle.picture.specs.Level.{strip, square}
 use Rattle.picture.specs.Planes.{table, coefficients}
-use Rattle.lanes.specs.Lanes.{Holds, Placed}
+use Rattle.lanes.specs.Lanes.{InLanes, Placed}
 use Rattle.lanes.proofs.Rows.{four-numbers, joined}
 use Rattle.inverse_two.specs.Blocks.{blockFrom, blockInLane, FourBlocks}
 
@@ -31,7 +31,7 @@ block-read z z' x y w p q r s a b c d i o e f g h k l m = joined (top-row o (e �
 
 -- the numbers of level one, and the high-pass numbers of each block
 module _ (grid high zeros : List ℤ) {a b c d : List ℤ} (m from : ℕ) (read : four zeros ≡ get (strip 1 m) grid)
-    (p : Holds high 15 from a) (q : Holds high 15 (from + 3) b) (r : Holds high 15 (from + 7) c) (s : Holds high 15 (from + 11) d) where
+    (p : InLanes high 15 from a) (q : InLanes high 15 (from + 3) b) (r : InLanes high 15 (from + 7) c) (s : InLanes high 15 (from + 11) d) where
   number : (l : ℕ) → l < 4 → at zeros l ≡ at grid (m + l)
   unfolding get
   number zero h = place 0 read ∙ ap (at grid) (omega arith)

@@ -18,16 +18,16 @@ use Rattle.figures.specs.Block.{four}
 use Rattle.picture.specs.Level.{strip, square}
 use Rattle.picture.proofs.Levels.{rising-places, square-places}
 use Rattle.picture.proofs.Cells.{all-strip, all-square}
-use Rattle.lanes.specs.Lanes.{Holds}
+use Rattle.lanes.specs.Lanes.{InLanes}
 
 -- the first n pieces of `out` hold F 0, .., F (n - 1)
-abbrev pub Filled : (ℕ → List ℕ) → (ℕ → List ℤ) → ℕ → List ℤ → Type 0
-Filled piece F n out = (l : ℕ) → l < n → get (piece l) out ≡ F l
+abbrev pub Pieces : (ℕ → List ℕ) → (ℕ → List ℤ) → ℕ → List ℤ → Type 0
+Pieces piece F n out = (l : ℕ) → l < n → get (piece l) out ≡ F l
 
 -- `part` tells the piece of a place
-filled-more : (piece : ℕ → List ℕ) (part : ℕ → ℕ) (F : ℕ → List ℤ) (n : ℕ) (out x u : List ℤ) → ((l : ℕ) → l < n + 1 → All (λ i. part i ≡ l) (piece l)) → T (places (length out) (piece n))
-    → x ≡ F n → length x ≡ length (piece n) → u ≡ put (piece n) x out → Filled piece F n out → Filled piece F (n + 1) u
-filled-more piece part F n out x u inside room e long f h l k = by-cases (ℕ-discrete l n) here (λ o. there o ∙ h l (omega (arith, o)))
+pieces-more : (piece : ℕ → List ℕ) (part : ℕ → ℕ) (F : ℕ → List ℤ) (n : ℕ) (out x u : List ℤ) → ((l : ℕ) → l < n + 1 → All (λ i. part i ≡ l) (piece l)) → T (places (length out) (piece n))
+    → x ≡ F n → length x ≡ length (piece n) → u ≡ put (piece n) x out → Pieces piece F n out → Pieces piece F (n + 1) u
+pieces-more piece part F n out x u inside room e long f h l k = by-cases (ℕ-discrete l n) here (λ o. there o ∙ h l (omega (arith, o)))
   where
     here : l ≡ n → get (piece l) u ≡ F l
     here q = rw q (ap (get (piece n)) f ∙ get-put (piece n) x out room long refl ∙ e)
@@ -48,12 +48,12 @@ square-in l h =
     row i e = all-strip (λ k. k % 16 / 4 ≡ l) 1 i (omega arith) (omega arith) (omega arith) (omega arith)
 
 abbrev pub Beside : (ℕ → List ℤ) → ℕ → List ℤ → Type 0
-Beside = Filled (λ l. square 16 (4 * l))
+Beside = Pieces (λ l. square 16 (4 * l))
 
 pub beside-more : (F : ℕ → List ℤ) (n : ℕ) (out x u : List ℤ) → n < 4 → length out ≡ 64 → x ≡ F n → length (F n) ≡ 16 → u ≡ put (square 16 (4 * n)) x out → Beside F n out → Beside F (n + 1) u
 unfolding square
 beside-more F n out x u few long e sixteen f h =
-    filled-more (λ l. square 16 (4 * l)) (λ i. i % 16 / 4) F n out x u (λ l k. square-in l (omega arith)) (square-places 16 (4 * n) (length out) (omega arith) (omega arith)) e (ap length e ∙ sixteen) f h
+    pieces-more (λ l. square 16 (4 * l)) (λ i. i % 16 / 4) F n out x u (λ l k. square-in l (omega arith)) (square-places 16 (4 * n) (length out) (omega arith) (omega arith)) e (ap length e ∙ sixteen) f h
 
 -- ---- lanes of a row
 
@@ -61,9 +61,9 @@ lane-in : (l : ℕ) → l < 4 → All (λ i. 3 - i / 4 ≡ l) (strip 1 (12 - 4 *
 lane-in l h = all-strip (λ i. 3 - i / 4 ≡ l) 1 (12 - 4 * l) (omega arith) (omega arith) (omega arith) (omega arith)
 
 lane-more : (s : List ℤ) (step from n i j : ℕ) (row x u : List ℤ) → n < 4 → length row ≡ 16 → i ≡ 12 - 4 * n → j ≡ from + step * n → four x ≡ get (strip 1 j) s → u ≡ put (strip 1 i) (four x) row
-    → Filled (λ l. strip 1 (12 - 4 * l)) (λ l. get (strip 1 (from + step * l)) s) n row → Filled (λ l. strip 1 (12 - 4 * l)) (λ l. get (strip 1 (from + step * l)) s) (n + 1) u
+    → Pieces (λ l. strip 1 (12 - 4 * l)) (λ l. get (strip 1 (from + step * l)) s) n row → Pieces (λ l. strip 1 (12 - 4 * l)) (λ l. get (strip 1 (from + step * l)) s) (n + 1) u
 lane-more s step from n i j row x u few long p q read stored h =
-    filled-more (λ l. strip 1 (12 - 4 * l)) (λ k. 3 - k / 4) (λ l. get (strip 1 (from + step * l)) s) n row (four x) u (λ l k. lane-in l (omega arith)) room
+    pieces-more (λ l. strip 1 (12 - 4 * l)) (λ k. 3 - k / 4) (λ l. get (strip 1 (from + step * l)) s) n row (four x) u (λ l k. lane-in l (omega arith)) room
     (read ∙ ap (λ (k : ℕ). get (strip 1 k) s) q) refl (stored ∙ ap (λ (k : ℕ). put (strip 1 k) (four x) row) p) h
   where
     room : T (places (length row) (strip 1 (12 - 4 * n)))
@@ -71,7 +71,7 @@ lane-more s step from n i j row x u few long p q read stored h =
 
 pub held : (s : List ℤ) (step from : ℕ) (v0 v1 v2 v3 v4 p q r t : List ℤ) → length v0 ≡ 16 → four p ≡ get (strip 1 from) s → v1 ≡ put (strip 1 12) (four p) v0
     → four q ≡ get (strip 1 (from + step)) s → v2 ≡ put (strip 1 8) (four q) v1 → four r ≡ get (strip 1 (from + step + step)) s → v3 ≡ put (strip 1 4) (four r) v2
-    → four t ≡ get (strip 1 (from + step + step + step)) s → v4 ≡ put (strip 1 0) (four t) v3 → Holds s step from v4
+    → four t ≡ get (strip 1 (from + step + step + step)) s → v4 ≡ put (strip 1 0) (four t) v3 → InLanes s step from v4
 held s step from v0 v1 v2 v3 v4 p q r t long a b c d e f g h = record { len = ap length h ∙ length-put _ _ v3 ∙ long3; own = all }
   where
     long1 : length v1 ≡ 16
@@ -83,7 +83,7 @@ held s step from v0 v1 v2 v3 v4 p q r t long a b c d e f g h = record { len = ap
     long3 : length v3 ≡ 16
     long3 = ap length f ∙ length-put (strip 1 4) (four r) v2 ∙ long2
 
-    all : Filled (λ l. strip 1 (12 - 4 * l)) (λ l. get (strip 1 (from + step * l)) s) 4 v4
+    all : Pieces (λ l. strip 1 (12 - 4 * l)) (λ l. get (strip 1 (from + step * l)) s) 4 v4
     all =
         lane-more s step from 3 0 _ v3 t v4 (omega arith) long3 refl (omega arith) g h
         (lane-more s step from 2 4 _ v2 r v3 (omega arith) long2 refl (omega arith) e f

@@ -19,7 +19,7 @@ use Rattle.picture.proofs.Table.{at-table, table-same}
 use Rattle.picture.proofs.Squares.{sixteen, get-sixteen}
 use Rattle.picture.proofs.Levels.{rising-places}
 use Rattle.picture.proofs.Cells.{all-strip}
-use Rattle.lanes.specs.Lanes.{laneOf, Holds, Moved, Placed}
+use Rattle.lanes.specs.Lanes.{laneOf, InLanes, Moved, Placed}
 
 -- ---- four places
 
@@ -109,7 +109,7 @@ unfolding flat
 four-rows p q r s a b c d = joined a b c d
 
 -- rows of four squares side by side, the first at place i of a grid of w columns
-pub lanes-held : (s a b c d : List ℤ) (w i : ℕ) → Holds s 4 i a → Holds s 4 (i + w) b → Holds s 4 (i + w + w) c → Holds s 4 (i + w + w + w) d
+pub lanes-held : (s a b c d : List ℤ) (w i : ℕ) → InLanes s 4 i a → InLanes s 4 (i + w) b → InLanes s 4 (i + w + w) c → InLanes s 4 (i + w + w + w) d
     → (l : ℕ) → l < 4 → laneOf a b c d l ≡ get (square w (i + 4 * l)) s
 unfolding get square
 lanes-held s a b c d w i p q r t l h = joined (p .own l h) (q .own l h ∙ from (omega arith)) (r .own l h ∙ from (omega arith)) (t .own l h ∙ from (omega arith))

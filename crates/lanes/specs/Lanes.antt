@@ -16,7 +16,7 @@ abbrev pub laneOf : List ℤ → List ℤ → List ℤ → List ℤ → ℕ → 
 laneOf a b c d l = rowsAt a b c d (12 - 4 * l)
 
 -- the row has four numbers of s for each lane: those of lane l stand from `from` + step * l on
-pub record Holds (s : List ℤ) (step from : ℕ) (row : List ℤ) : Type 0 where
+pub record InLanes (s : List ℤ) (step from : ℕ) (row : List ℤ) : Type 0 where
   pub len : length row ≡ 16
   pub own : (l : ℕ) → l < 4 → get (strip 1 (12 - 4 * l)) row ≡ get (strip 1 (from + step * l)) s
 

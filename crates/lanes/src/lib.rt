@@ -5,7 +5,7 @@ ghost use mathlib.Core.Path.{_≡_};
 ghost use Prim.Native.Nat.{_+_, _<_, _≤_};
 ghost use lib.ListN.{length};
 ghost use Rattle.figures.specs.Block.{flat};
-ghost use Rattle.lanes.specs.Lanes.{rowsAt, Holds, Moved, Placed};
+ghost use Rattle.lanes.specs.Lanes.{rowsAt, InLanes, Moved, Placed};
 use grid::get_four;
 use grid::put_four;
 
@@ -13,7 +13,7 @@ use grid::put_four;
 pub fn hold(s: &[i32], step: usize, from: usize, row: &mut [i32])
     requires { ⌜ from + step + step + step + 3 < length (now s) ⌝ }
     requires { ⌜ length (now row) ≡ 16 ⌝ }
-    ensures { λ r. ⌜ Holds (now (s .entry)) step from (now (row .exit)) ⌝ }
+    ensures { λ r. ⌜ InLanes (now (s .entry)) step from (now (row .exit)) ⌝ }
 {
     let second = from + step;
     let third = second + step;

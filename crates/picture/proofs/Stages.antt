@@ -2,7 +2,7 @@
 use Prim.Native.Nat.{ℕ, zero, suc, _+_, _-_, _*_, _<_}
 use native.Mathlib.Omega.{arith}
 use Rattle.lifting.specs.Program.{Program, end, _then_, each}
-use Rattle.picture.specs.Level.{cell, coreAt, squareFilterAt, fourFilterAt, cores, squareFilters, rowFilters, columnFilters, edges, filters}
+use Rattle.picture.specs.Level.{cell, coreAt, squareFilterAt, fourFilterAt, cores, squareFilters, rowFilters, columnFilters, alongEdges, filters}
 
 -- P of each use of the core transform, and of each use of a filter, in a grid of p by q squares
 abbrev pub OfCores : (Program → Type 0) → ℕ → ℕ → Type 0
@@ -36,7 +36,7 @@ module _ (P : Program → Type 0) (none : P end) (join : (a b : Program) → P a
     unfolding columnFilters
     of-columns h c l = of-each (q - 1) _ (λ j m. h .columns c j l m)
 
-    of-edges : (n : ℕ) → 0 < n → (line : ℕ → Program) → ((i : ℕ) → i < 4 * n → P (line i)) → P (edges n line)
+    of-edges : (n : ℕ) → 0 < n → (line : ℕ → Program) → ((i : ℕ) → i < 4 * n → P (line i)) → P (alongEdges n line)
     of-edges n some line h = join _ _ (h 0 (omega arith)) (join _ _ (h 1 (omega arith)) (join _ _ (h (4 * n - 2) (omega arith)) (h (4 * n - 1) (omega arith))))
 
     pub of-filters : 0 < p → 0 < q → OfFilters P p q → P (filters p q)

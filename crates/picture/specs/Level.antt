@@ -42,12 +42,12 @@ unfoldable pub columnFilters : ℕ → ℕ → ℕ → Program
 columnFilters p q c = each (q - 1) (λ j. fourFilterAt (4 * p) (cell p (4 * j + 2) c))
 
 -- a line of filters in each of the first two and the last two of 4 n lines
-abbrev pub edges : ℕ → (ℕ → Program) → Program
-edges n line = line 0 then line 1 then line (4 * n - 2) then line (4 * n - 1)
+abbrev pub alongEdges : ℕ → (ℕ → Program) → Program
+alongEdges n line = line 0 then line 1 then line (4 * n - 2) then line (4 * n - 1)
 
 -- the top two and bottom two rows, and the two leftmost and two rightmost columns; the corners stay unfiltered
 abbrev pub edgeFilters : ℕ → ℕ → Program
-edgeFilters p q = edges q (rowFilters p) then edges p (columnFilters p q)
+edgeFilters p q = alongEdges q (rowFilters p) then alongEdges p (columnFilters p q)
 
 unfoldable pub filters : ℕ → ℕ → Program
 filters p q = squareFilters p q then edgeFilters p q
