@@ -1,6 +1,7 @@
 pub mod NumberLaws
 pub mod CheckLaws
 pub mod Table
+pub mod UpTo
 pub mod Geometry
 pub mod Grid
 pub mod Levels

@@ -1,15 +1,13 @@
 -- Words and numbers in lists of bytes: what stands behind a part that has been written moves up by what is written next.
-use Prim.Native.Nat.{ℕ, zero, suc, _+_, _*_, _/_, _%_, _≤_, _<_}
+use Prim.Native.Nat.{ℕ, suc, _+_, _*_, _/_, _%_, _≤_, _<_}
 use mathlib.Core.Path.{_≡_, refl, sym, ap, _∙_}
 use mathlib.Core.List.{List, [], _∷_, _++_, append-assoc, append-nil}
 use native.Mathlib.Omega.{arith}
 use native.Mathlib.Numerals.{add-one}
 use lib.ListN.{length, take, drop, getD, set, length-append, take-append-drop}
-use lib.Seq.{sets-eq, take-at, drop-append-add, drop-drop, take-suc, drop-cons, length-take-le, set-at}
+use lib.Seq.{sets-eq, take-at, drop-append-add, drop-drop, take-suc, length-take-le}
 use lib.IntN.{ℤ, pos}
 use Rattle.lifting.specs.Wrap.{low32}
-use Rattle.picture.specs.Planes.{table}
-use Rattle.picture.proofs.Table.{length-table}
 use Rattle.plane_file.specs.Words.{word, words, numbers}
 
 -- ---- four bytes are stored
@@ -92,27 +90,3 @@ all-written plane b at i e w = w ∙ rw (e, take-whole plane)
     take-whole : (l : List ℤ) → take (length l) l ≡ l
     take-whole [] = refl
     take-whole (x ∷ l) = ap (λ (k : List ℤ). x ∷ k) (take-whole l)
-
--- ---- tables
-
-pub table-more : (n : ℕ) (f : ℕ → ℤ) → table (suc n) f ≡ table n f ++ (f n ∷ [])
-unfolding table
-table-more zero f = refl
-table-more (suc n) f = ap (λ (l : List ℤ). f zero ∷ l) (table-more n (λ i. f (suc i)))
-
-pub none-read : (f : ℕ → ℤ) (p : List ℤ) → p ≡ table 0 f ++ drop 0 p
-unfolding table
-none-read f p = refl
-
-pub one-read : (f : ℕ → ℤ) (p p1 : List ℤ) (i : ℕ) {y : ℤ} → i < length p → p1 ≡ table i f ++ drop i p → y ≡ f i
-    → set p1 i y ≡ table (i + 1) f ++ drop (i + 1) p
-one-read f p p1 i {y} h e q =
-    rw (e, q, drop-cons p i (pos 0) h, set-at (table i f) (getD p i (pos 0)) (drop (suc i) p) (f i) i (length-table i f), add-one i, table-more i f)
-    (sym (append-assoc (table i f) (f i ∷ []) (drop (suc i) p)))
-
-pub all-read : (f : ℕ → ℤ) (p p1 : List ℤ) (i : ℕ) → i ≡ length p → p1 ≡ table i f ++ drop i p → p1 ≡ table (length p) f
-all-read f p p1 i e q = q ∙ rw (e, drop-whole p) (append-nil (table (length p) f))
-  where
-    drop-whole : (l : List ℤ) → drop (length l) l ≡ []
-    drop-whole [] = refl
-    drop-whole (x ∷ l) = drop-whole l
