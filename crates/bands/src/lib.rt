@@ -1,0 +1,3 @@
+// The three bands, DC, low-pass and high-pass, each with its own step: their checks, and one plane quantised or restored.
+pub mod plane; // plane.rt: one plane quantised, and one restored
+pub mod steps; // steps.rt: the step indices of the bands, and the checks that quantising and restoring share

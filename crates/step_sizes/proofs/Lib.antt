@@ -1,0 +1,6 @@
+pub mod Tests
+pub mod Reciprocal
+pub mod Signs
+pub mod Rounding
+pub mod Claims
+pub mod Sanity

@@ -1,0 +1,48 @@
+-- The magnitude and half a step are what can be divided, and the quotient is no larger than the magnitude.
+use Prim.Native.Nat.{ℕ, _+_, _/_, _≤_}
+use mathlib.Core.Path.{_≡_, ap, _∙_}
+use native.Mathlib.Omega.{arith}
+use borrow.Author.Needs.{needs}
+use lib.IntN.{natAbs}
+use mir.Syntax.{w32}
+use mir.ValLaws.{toZ-ofZ}
+use Rattle.lifting.proofs.Bits.{back}
+use Rattle.step_sizes.specs.Quantise.{signed, quantised}
+use Rattle.step_sizes.proofs.Signs.{magnitude-most}
+use Rattle.step_sizes.proofs.Rounding.{level-most}
+use Rattle.step_sizes.proofs.number.quantise_number.Statement.{statement}
+use Rattle.step_sizes.proofs.number.quantise_number.Tie as tie
+
+size : (c : tie.After-magnitude) → c .magnitude .result ≡ natAbs (c .before .args .x)
+size c = let s = c .before in c .magnitude .ensures ∙ ap natAbs (toZ-ofZ w32 (s .args .x) (s .fits .x))
+
+most : (c : tie.After-magnitude) → c .magnitude .result ≤ 2147483648
+most c = let s = c .before in omega (arith, size c, magnitude-most (s .args .x) (s .fits .x))
+
+add-divide : tie.Need-add-divide
+add-divide c = record { fits = omega (arith, most (c .before), c .before .before .pre .small) }
+
+divide-requires : tie.Need-divide-requires
+divide-requires c κs = (c .before .before .pre, omega (arith, most (c .before)))
+
+-- the quotient
+level : (c : tie.After-divide) → let s = c .before .before .before in c .divide .result ≡ (natAbs (s .args .x) + s .args .by .step / 2) / s .args .by .step
+level c =
+    let m = c .before .before in
+    let step = m .before .args .by .step in
+    c .divide .ensures ∙ ap (λ (k : ℕ). (k + step / 2) / step) (size m)
+
+with-sign-requires : tie.Need-with-sign-requires
+with-sign-requires c κs =
+    let s = c .before .before .before in
+    rw (level c, toZ-ofZ w32 (s .args .x) (s .fits .x)) (level-most (s .args .by .step) (natAbs (s .args .x)) (s .pre .positive))
+
+returns : tie.Need-returns
+unfolding quantised
+returns c =
+    let d = c .before in
+    let s = d .before .before .before in
+    back (c .with-sign .ok) ∙ c .with-sign .ensures ∙ rw (toZ-ofZ w32 (s .args .x) (s .fits .x)) (ap (signed (s .args .x)) (level d))
+
+pub quantise-number-spec : {M : Type 1} → statement M
+quantise-number-spec = tie.close (tie.spec (λ c κs. search needs) add-divide divide-requires with-sign-requires returns)

@@ -1,0 +1,4 @@
+pub mod Steps
+pub mod Quantise
+pub mod Parts
+pub mod Claims
