@@ -57,7 +57,9 @@ typedef enum {
     LAPPED_REFUSED_LAST_WORD = 10,
     LAPPED_REFUSED_OFFSETS = 11,
     LAPPED_REFUSED_FILE_LENGTH = 12,
-    LAPPED_REFUSED_TOO_MANY_MACROBLOCKS = 13 /* only the program `samples` answers this */
+    LAPPED_REFUSED_TOO_MANY_MACROBLOCKS = 13, /* only the program `samples` answers this */
+    LAPPED_REFUSED_STEP_INDEX = 14,
+    LAPPED_REFUSED_PRODUCT = 15
 } lapped_answer;
 
 /* The size of a picture, in macroblocks: 1 to 525 across and 1 to 413 down. */
@@ -71,6 +73,11 @@ typedef enum {
     LAPPED_LOW_PASS = 15,
     LAPPED_HIGH_PASS = 240
 } lapped_plane;
+
+/* The step indices of the bands, 0 to 255 each; lapped_step has the steps. */
+typedef struct {
+    uint32_t dc, low, high;
+} lapped_steps;
 
 /* What reading a plane file gives: the answer and, if it is 0, the mode and the size; else zeros. */
 typedef struct {
@@ -95,6 +102,36 @@ uint32_t lapped_quarter(uint32_t mode, lapped_size size,
  * Checks 1, 2, 3, 7, 4, 5, 6. */
 uint32_t lapped_forward(uint32_t mode, lapped_size size,
                         const int32_t *samples, size_t samples_len,
+                        int32_t *dc, size_t dc_len,
+                        int32_t *low, size_t low_len,
+                        int32_t *high, size_t high_len);
+
+/* A level says how many steps a coefficient is, to the nearest: a smaller number, for a smaller
+ * archive. Levels lie in planes as their coefficients do. Each band has one step, chosen by its
+ * index; the caller keeps the indices, for a plane file does not hold them. */
+
+/* The step of an index: 1 for index 0, the index itself for 1 to 15, and above that
+ * (16 + index mod 16) * 2^(index div 16 - 1). 0 for an index above 255. */
+uint32_t lapped_step(uint32_t index);
+
+/* From coefficients to levels: the coefficient's sign with magnitude
+ * (magnitude + step div 2) div step. Step 1 changes nothing.
+ * Checks 1, 2, 3, 14, then 4, 5, 6 of the planes read, then 4, 5, 6 of those written. */
+uint32_t lapped_quantise(uint32_t mode, lapped_size size, lapped_steps steps,
+                         const int32_t *dc, size_t dc_len,
+                         const int32_t *low, size_t low_len,
+                         const int32_t *high, size_t high_len,
+                         int32_t *dc_levels, size_t dc_levels_len,
+                         int32_t *low_levels, size_t low_levels_len,
+                         int32_t *high_levels, size_t high_levels_len);
+
+/* From levels to coefficients: level * step, at most step div 2 from what was quantised. A
+ * coefficient near an end of the range can have a level whose product is beyond that end: 15.
+ * Checks 1, 2, 3, 14, then 4, 5, 6 of the planes read, then 4, 5, 6 of those written, then 15. */
+uint32_t lapped_restore(uint32_t mode, lapped_size size, lapped_steps steps,
+                        const int32_t *dc_levels, size_t dc_levels_len,
+                        const int32_t *low_levels, size_t low_levels_len,
+                        const int32_t *high_levels, size_t high_levels_len,
                         int32_t *dc, size_t dc_len,
                         int32_t *low, size_t low_len,
                         int32_t *high, size_t high_len);
@@ -161,6 +198,9 @@ static inline const char *lapped_message(uint32_t number) {
         return "an offset or the total in the header is not as laid down";
     case LAPPED_REFUSED_FILE_LENGTH: return "the bytes are not as many as the file's total";
     case LAPPED_REFUSED_TOO_MANY_MACROBLOCKS: return "the picture has more than 16 macroblocks";
+    case LAPPED_REFUSED_STEP_INDEX: return "a step index is above 255";
+    case LAPPED_REFUSED_PRODUCT:
+        return "a product of level and step is outside the signed 32-bit range";
     default: return "a number that this header does not list";
     }
 }

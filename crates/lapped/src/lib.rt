@@ -5,6 +5,10 @@ ghost use Rattle.picture.specs.Numbers.{settled, inverseNumber, forwardNumber, 
 ghost use Rattle.picture.specs.Transform.{inverse as samplesOf, forward as planesOf, quarter};
 ghost use Rattle.plane_file.specs.Numbers.{saveNumber};
 ghost use Rattle.plane_file.specs.Calls.{headerAnswer, loadAnswer, loaded, saved};
+ghost use Rattle.step_sizes.specs.Steps.{stepAnswer};
+ghost use Rattle.quantise.specs.Quantise.{quantisedPlanes, quantiseNumber};
+ghost use Rattle.restore.specs.Restore.{restoredPlanes, restoreNumber};
+use bands::steps::Steps;
 use forward::forward;
 use inverse::inverse;
 use inverse::quarter_view;
@@ -13,6 +17,9 @@ use plane_file::header::Header;
 use plane_file::header::read_header;
 use plane_file::load::load;
 use plane_file::save::save;
+use quantise::quantise;
+use restore::restore;
+use step_sizes::table::step_or_zero;
 
 #[no_mangle]
 pub extern "C" fn lapped_inverse(
@@ -94,4 +101,73 @@ pub extern "C" fn lapped_save(
     ensures { λ _. ⌜ now (bytes .exit) ≡ saved mode size (planes (now (dc .entry)) (now (low .entry)) (now (high .entry))) (now (bytes .entry)) ⌝ }
 {
     save(mode, size, dc, low, high, bytes)
+}
+
+#[no_mangle]
+pub extern "C" fn lapped_step(index: u32) -> u32
+    ensures { λ r. ⌜ r ≡ stepAnswer index ⌝ }
+{
+    step_or_zero(index)
+}
+
+#[no_mangle]
+pub extern "C" fn lapped_quantise(
+    mode: u32,
+    size: Size,
+    steps: Steps,
+    dc: &[i32],
+    low: &[i32],
+    high: &[i32],
+    dc_levels: &mut [i32],
+    low_levels: &mut [i32],
+    high_levels: &mut [i32],
+) -> u32
+    ensures { λ r. ⌜ r ≡ quantiseNumber mode size steps (planes (now (dc .entry)) (now (low .entry)) (now (high .entry)))
+        (planes (now («dc_levels» .entry)) (now («low_levels» .entry)) (now («high_levels» .entry))) ⌝ }
+    ensures { λ r. ⌜ planes (now («dc_levels» .exit)) (now («low_levels» .exit)) (now («high_levels» .exit)) ≡
+        settled r (quantisedPlanes steps (planes (now (dc .entry)) (now (low .entry)) (now (high .entry))))
+        (planes (now («dc_levels» .entry)) (now («low_levels» .entry)) (now («high_levels» .entry))) ⌝ }
+{
+    quantise(
+        mode,
+        size,
+        steps,
+        dc,
+        low,
+        high,
+        dc_levels,
+        low_levels,
+        high_levels,
+    )
+}
+
+#[no_mangle]
+pub extern "C" fn lapped_restore(
+    mode: u32,
+    size: Size,
+    steps: Steps,
+    dc_levels: &[i32],
+    low_levels: &[i32],
+    high_levels: &[i32],
+    dc: &mut [i32],
+    low: &mut [i32],
+    high: &mut [i32],
+) -> u32
+    ensures { λ r. ⌜ r ≡ restoreNumber mode size steps (planes (now («dc_levels» .entry)) (now («low_levels» .entry)) (now («high_levels» .entry)))
+        (planes (now (dc .entry)) (now (low .entry)) (now (high .entry))) ⌝ }
+    ensures { λ r. ⌜ planes (now (dc .exit)) (now (low .exit)) (now (high .exit)) ≡
+        settled r (restoredPlanes steps (planes (now («dc_levels» .entry)) (now («low_levels» .entry)) (now («high_levels» .entry))))
+        (planes (now (dc .entry)) (now (low .entry)) (now (high .entry))) ⌝ }
+{
+    restore(
+        mode,
+        size,
+        steps,
+        dc_levels,
+        low_levels,
+        high_levels,
+        dc,
+        low,
+        high,
+    )
 }

@@ -1,8 +1,9 @@
 //! The proved library timed beside the plain reference, memcpy and, where it is installed, jxrlib.
 //!
-//! Usage: bench [--inverse] [--forward] [--file] [--jxrlib]; without a flag, every section.
+//! Usage: bench [--inverse] [--forward] [--levels] [--file] [--jxrlib]; without a flag, every section.
 
 mod kernels;
+mod levels;
 mod measure;
 
 use lapped::{Mode, Planes, PlanesMut, PlanesRef, Size};
@@ -15,15 +16,15 @@ use reference::random::{Random, Values};
 const SIZES: [(u32, u32); 4] = [(1, 1), (4, 4), (64, 64), (525, 413)];
 
 const HEADING: &str = "\
-Nanoseconds of processor time per sample (for load and save: per number of the planes; for jxrlib: as
-said there), medians. The columns take turns in one run, on the same buffers. Every buffer is written
-once before the clock starts, so no first touch of a page is timed; no buffer is cleared between runs.
-The plain reference's working memory is allocated beforehand.";
+Nanoseconds of processor time per sample (for levels and files: per number of the planes; for jxrlib:
+as said there), medians. The columns take turns in one run, on the same buffers. Every buffer is
+written once before the clock starts, so no first touch of a page is timed; no buffer is cleared
+between runs. The plain reference's working memory is allocated beforehand.";
 
 fn main() {
     let flags: Vec<String> = std::env::args().skip(1).collect();
     if let Some(flag) = flags.iter().find(|flag| !SECTIONS.iter().any(|(name, _)| name == flag)) {
-        eprintln!("bench: {flag} is none of --inverse, --forward, --file and --jxrlib");
+        eprintln!("bench: {flag} is none of --inverse, --forward, --levels, --file and --jxrlib");
         std::process::exit(2);
     }
     println!("{HEADING}");
@@ -34,9 +35,10 @@ fn main() {
     }
 }
 
-const SECTIONS: [(&str, fn()); 4] = [
+const SECTIONS: [(&str, fn()); 5] = [
     ("--inverse", inverse_section),
     ("--forward", forward_section),
+    ("--levels", levels::section),
     ("--file", file_section),
     ("--jxrlib", kernels::section),
 ];
@@ -81,17 +83,18 @@ fn split_mut(planes: &mut [i32], n: usize) -> PlanesMut<'_> {
     PlanesMut { dc, low, high }
 }
 
-fn heading(section: &str) {
+/// The heading of a section whose rows differ in their size and in the choice of this name.
+fn heading(section: &str, choice: &str) {
     println!();
     println!(
-        "{section:<10} {:>9} {:>4} {:>8} {:>8} {:>8} {:>13} {:>14}",
-        "size", "mode", "proved", "plain", "memcpy", "proved/plain", "proved/memcpy"
+        "{section:<10} {:>9} {choice:>5} {:>8} {:>8} {:>8} {:>13} {:>14}",
+        "size", "proved", "plain", "memcpy", "proved/plain", "proved/memcpy"
     );
 }
 
-fn row(section: &str, size: Size, mode: &str, [proved, plain, memcpy]: [f64; 3]) {
+fn row(section: &str, size: Size, choice: &str, [proved, plain, memcpy]: [f64; 3]) {
     println!(
-        "{section:<10} {:>9} {mode:>4} {proved:>8.3} {plain:>8.3} {memcpy:>8.3} {:>13.2} {:>14.2}",
+        "{section:<10} {:>9} {choice:>5} {proved:>8.3} {plain:>8.3} {memcpy:>8.3} {:>13.2} {:>14.2}",
         format!("{}x{}", size.width(), size.height()),
         proved / plain,
         proved / memcpy
@@ -100,7 +103,7 @@ fn row(section: &str, size: Size, mode: &str, [proved, plain, memcpy]: [f64; 3])
 
 /// The table of one direction: a row for each size and mode, then what size costs.
 fn section(name: &str, measure: impl Fn(Mode, &mut Picture) -> [f64; 3]) {
-    heading(name);
+    heading(name, "mode");
     let mut proved = [[0.0; 3]; SIZES.len()];
     for (i, (width, height)) in SIZES.into_iter().enumerate() {
         let mut picture = Picture::new(width, height);
@@ -197,7 +200,7 @@ fn file_section() {
     let memcpy = |file: &mut File| {
         black_box(&mut file.copy).copy_from_slice(black_box(&file.bytes));
     };
-    heading("file");
+    heading("file", "mode");
     let times = median_nanoseconds(size.samples(), &mut file, [&save, &plain_save, &memcpy]);
     row("save", size, "", times);
     let times = median_nanoseconds(size.samples(), &mut file, [&load, &plain_load, &memcpy]);

@@ -1,9 +1,10 @@
 //! The C interface of liblapped.a, item by item as in `include/lapped.h`.
 //!
 //! Nothing is checked or renamed here; the crate `lapped` has safe calls over these. Each function
-//! takes any mode, size and lengths, and answers the number of the first check that fails, 0 if none
-//! does. Each pointer must be non-null and aligned, even where its length is 0, with as many elements
-//! behind it as its length says, and what is written must overlap nothing else that is passed.
+//! that takes pointers takes any mode, size, step indices and lengths with them, and answers the
+//! number of the first check that fails, 0 if none does. Each pointer must be non-null and aligned,
+//! even where its length is 0, with as many elements behind it as its length says, and what is written
+//! must overlap nothing else that is passed.
 //!
 //! ```
 //! use lapped_sys::{lapped_quarter, lapped_size};
@@ -28,6 +29,15 @@
 pub struct lapped_size {
     pub width: u32,
     pub height: u32,
+}
+
+/// The step indices of the bands, 0 to 255 each.
+#[repr(C)]
+#[derive(Clone, Copy, Debug, PartialEq, Eq)]
+pub struct lapped_steps {
+    pub dc: u32,
+    pub low: u32,
+    pub high: u32,
 }
 
 /// What reading a plane file gives: the answer and, if it is 0, the mode and the size; else zeros.
@@ -72,6 +82,49 @@ extern "C" {
         size: lapped_size,
         samples: *const i32,
         samples_len: usize,
+        dc: *mut i32,
+        dc_len: usize,
+        low: *mut i32,
+        low_len: usize,
+        high: *mut i32,
+        high_len: usize,
+    ) -> u32;
+
+    /// The step of an index; 0 for an index above 255.
+    pub fn lapped_step(index: u32) -> u32;
+
+    /// From coefficients to levels. Checks 1, 2, 3, 14, then 4, 5, 6 of the planes read, then 4, 5, 6
+    /// of those written.
+    pub fn lapped_quantise(
+        mode: u32,
+        size: lapped_size,
+        steps: lapped_steps,
+        dc: *const i32,
+        dc_len: usize,
+        low: *const i32,
+        low_len: usize,
+        high: *const i32,
+        high_len: usize,
+        dc_levels: *mut i32,
+        dc_levels_len: usize,
+        low_levels: *mut i32,
+        low_levels_len: usize,
+        high_levels: *mut i32,
+        high_levels_len: usize,
+    ) -> u32;
+
+    /// From levels to coefficients. Checks 1, 2, 3, 14, then 4, 5, 6 of the planes read, then 4, 5, 6
+    /// of those written, then 15.
+    pub fn lapped_restore(
+        mode: u32,
+        size: lapped_size,
+        steps: lapped_steps,
+        dc_levels: *const i32,
+        dc_levels_len: usize,
+        low_levels: *const i32,
+        low_levels_len: usize,
+        high_levels: *const i32,
+        high_levels_len: usize,
         dc: *mut i32,
         dc_len: usize,
         low: *mut i32,

@@ -3,7 +3,7 @@
 mod common;
 use common::*;
 use lapped::{Mode, Refusal};
-use lapped_sys::{lapped_header, lapped_size};
+use lapped_sys::{lapped_header, lapped_size, lapped_steps};
 use std::fmt::Write;
 use std::mem::size_of;
 use std::path::Path;
@@ -18,15 +18,16 @@ fn expected() -> String {
     writeln!(text, "version {version} is {number}").unwrap();
 
     writeln!(text, "size {}: 0 4", size_of::<lapped_size>()).unwrap();
+    writeln!(text, "steps {}: 0 4 8", size_of::<lapped_steps>()).unwrap();
     writeln!(text, "header {}: 0 4 8", size_of::<lapped_header>()).unwrap();
     let [none, samples, both] = Mode::ALL.map(Mode::number);
     writeln!(text, "modes {none} {samples} {both}").unwrap();
 
     writeln!(text, "answer 0: done").unwrap();
-    for number in 1..=13 {
+    for number in 1..=15 {
         writeln!(text, "answer {number}: {}", Refusal::from_number(number).unwrap()).unwrap();
     }
-    for number in [14, u32::MAX] {
+    for number in [16, u32::MAX] {
         writeln!(text, "{number}: a number that this header does not list").unwrap();
     }
     for n in [1, 6, 525 * 413] {

@@ -22,7 +22,7 @@ fn examples_are_quoted_whole() {
 
 #[test]
 fn answers_are_the_wrappers() {
-    let words = (1..=13).map(|number| Refusal::from_number(number).unwrap().to_string());
+    let words = (1..=15).map(|number| Refusal::from_number(number).unwrap().to_string());
     let answers = std::iter::once("done".to_string()).chain(words).enumerate();
     let table: String =
         answers.map(|(number, words)| format!("| {number} | {words} |\n")).collect();

@@ -3,12 +3,15 @@
 //! A picture is made of macroblocks of 16 × 16 samples. [`forward`] takes its samples to three planes
 //! of coefficients, [`inverse`] takes the planes back to the same samples, and [`quarter_view`] shows
 //! the picture at a quarter of its width and height. A [`PlaneFile`] keeps planes as bytes. Samples
-//! and coefficients are `i32`, any values; sums wrap.
+//! and coefficients are `i32`, any values; sums wrap. For a smaller archive, [`quantise`] takes
+//! coefficients to levels, smaller numbers that [`restore`] takes back to nearly the same coefficients;
+//! the step of each band, chosen by [`Steps`], says how nearly.
 //!
 //! The calls are functions of `liblapped.a`, which is proved to meet its definitions for every input.
 //! This crate adds the types: a call that gets a [`Mode`] and a [`Size`] can only be refused for the
-//! length of a slice or for the bytes of a file, and a call that refuses has changed nothing that was
-//! lent to it. No call keeps anything; calls on different memory may run side by side.
+//! length of a slice, for the bytes of a file or for a level too large to be restored, and a call that
+//! refuses has changed nothing that was lent to it. No call keeps anything; calls on different memory
+//! may run side by side.
 //!
 //! ```
 //! use lapped::{Mode, Planes, Size};
@@ -23,22 +26,26 @@
 //!
 //! Every operation comes in two kinds: a method that allocates its result, as above, and a function
 //! that writes into memory lent by the caller and allocates nothing ([`inverse`], [`forward`],
-//! [`quarter_view`], [`read_header`], [`load`], [`save`]).
+//! [`quarter_view`], [`quantise`], [`restore`], [`read_header`], [`load`], [`save`]).
 
 #![deny(missing_docs)]
 
 #[macro_use]
 mod call;
+mod levels;
 mod mode;
 mod plane_file;
 mod planes;
 mod refusal;
 mod size;
+mod steps;
 mod transform;
 
+pub use levels::{quantise, restore};
 pub use mode::Mode;
 pub use plane_file::{load, read_header, save, Header, PlaneFile};
 pub use planes::{Planes, PlanesMut, PlanesRef};
 pub use refusal::Refusal;
 pub use size::Size;
+pub use steps::{step, Steps};
 pub use transform::{forward, inverse, quarter_view};

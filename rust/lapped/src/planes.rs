@@ -1,8 +1,10 @@
 //! The three coefficient planes of a picture, owned and lent.
 
-use crate::{forward, inverse, quarter_view, Mode, Refusal, Size};
+use crate::{forward, inverse, quantise, quarter_view, restore, Mode, Refusal, Size, Steps};
 
 /// The coefficient planes of a picture, owned.
+///
+/// The levels of coefficients lie in planes of the same form, [`Planes::quantised`].
 ///
 /// The fields are open: planes may be put together from vectors at hand and taken apart again. Every
 /// call checks that the lengths fit the size.
@@ -111,6 +113,55 @@ impl Planes {
         let mut view = vec![0; self.size.view_samples()];
         quarter_view(mode, self.size, self.as_ref(), &mut view)?;
         Ok(view)
+    }
+
+    /// The levels of these coefficients, in planes of the same size.
+    ///
+    /// ```
+    /// use lapped::{Mode, Planes, Size, Steps};
+    ///
+    /// let mut planes = Planes::zeroed(Size::new(1, 1)?);
+    /// planes.dc[0] = -64;
+    /// planes.high[239] = 17;
+    /// let levels = planes.quantised(Mode::BothLevels, Steps::all(10))?;
+    /// assert_eq!((levels.dc[0], levels.high[239]), (-6, 2)); // to the nearest ten
+    /// # Ok::<(), lapped::Refusal>(())
+    /// ```
+    ///
+    /// # Errors
+    ///
+    /// [`Refusal::DcLength`], [`Refusal::LowPassLength`] or [`Refusal::HighPassLength`] if a plane
+    /// does not fit the size.
+    pub fn quantised(&self, mode: Mode, steps: Steps) -> Result<Planes, Refusal> {
+        let mut levels = Planes::zeroed(self.size);
+        quantise(mode, self.size, steps, self.as_ref(), levels.as_mut())?;
+        Ok(levels)
+    }
+
+    /// The coefficients of these levels, in planes of the same size.
+    ///
+    /// ```
+    /// use lapped::{Mode, Planes, Refusal, Size, Steps};
+    ///
+    /// let mut levels = Planes::zeroed(Size::new(1, 1)?);
+    /// levels.dc[0] = -6;
+    /// let planes = levels.restored(Mode::BothLevels, Steps::all(10))?;
+    /// assert_eq!(planes.dc, [-60]);
+    ///
+    /// levels.dc[0] = i32::MAX;
+    /// let refused = levels.restored(Mode::BothLevels, Steps::all(10));
+    /// assert_eq!(refused, Err(Refusal::Product));
+    /// # Ok::<(), Refusal>(())
+    /// ```
+    ///
+    /// # Errors
+    ///
+    /// [`Refusal::DcLength`], [`Refusal::LowPassLength`] or [`Refusal::HighPassLength`] if a plane
+    /// does not fit the size; then [`Refusal::Product`] if a coefficient would not fit an `i32`.
+    pub fn restored(&self, mode: Mode, steps: Steps) -> Result<Planes, Refusal> {
+        let mut planes = Planes::zeroed(self.size);
+        restore(mode, self.size, steps, self.as_ref(), planes.as_mut())?;
+        Ok(planes)
     }
 
     /// The planes lent, to be read.

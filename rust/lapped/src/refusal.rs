@@ -47,13 +47,18 @@ pub enum Refusal {
     FileLength,
     /// 13: more than 16 macroblocks. Only the program `samples` answers this.
     TooManyMacroblocks,
+    /// 14: a step index is above 255. One of [`Steps`](crate::Steps) cannot be, so no call of this
+    /// crate answers this.
+    StepIndex,
+    /// 15: a product of level and step is outside the signed 32-bit range.
+    Product,
     /// A number that this version of the wrapper does not know, of a library that is newer.
     #[non_exhaustive]
     Unlisted(u32),
 }
 
 /// Number 1 and those that follow it, each with its words.
-const LISTED: [(Refusal, &str); 13] = [
+const LISTED: [(Refusal, &str); 15] = [
     (Refusal::Mode, "the mode is above 2"),
     (Refusal::Width, "the width is not 1 to 525 macroblocks"),
     (Refusal::Height, "the height is not 1 to 413 macroblocks"),
@@ -67,6 +72,8 @@ const LISTED: [(Refusal, &str); 13] = [
     (Refusal::Offsets, "an offset or the total in the header is not as laid down"),
     (Refusal::FileLength, "the bytes are not as many as the file's total"),
     (Refusal::TooManyMacroblocks, "the picture has more than 16 macroblocks"),
+    (Refusal::StepIndex, "a step index is above 255"),
+    (Refusal::Product, "a product of level and step is outside the signed 32-bit range"),
 ];
 
 impl Refusal {

@@ -1,6 +1,7 @@
 //! The forward call against the reference, and round trips both ways.
 
 mod common;
+use common::refusals::Operation;
 use common::*;
 use lapped::{Mode, Size};
 use reference::random::{Random, Values};
@@ -18,12 +19,6 @@ fn forward(mode: Mode, size: Size, samples: &[i32], random: &mut Random) -> [Vec
         plane.assert_holds(&result, "a plane");
         result
     })
-}
-
-fn assert_planes(found: &[Vec<i32>; 3], expected: &[Vec<i32>; 3], what: &str) {
-    for (i, name) in ["DC", "low-pass", "high-pass"].into_iter().enumerate() {
-        assert_same(&found[i], &expected[i], &format!("{what}, {name} plane"));
-    }
 }
 
 fn assert_agrees(mode: Mode, size: Size, samples: &[i32], random: &mut Random) {
@@ -70,9 +65,9 @@ fn largest_picture() {
 const FORWARD: Operation<4> = Operation {
     checks: &[1, 2, 3, 7, 4, 5, 6],
     lent: [7, 4, 5, 6],
-    library: |mode, size, slices, _| raw::forward(mode, size, slices),
-    reference: |mode, size, [samples, dc, low, high], _| {
-        reference::forward(mode, size, samples, dc, low, high)
+    library: |a, slices, _| raw::forward(a.mode, a.size, slices),
+    reference: |a, [samples, dc, low, high], _| {
+        reference::forward(a.mode, a.reference_size(), samples, dc, low, high)
     },
 };
 

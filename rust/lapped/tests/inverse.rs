@@ -1,6 +1,7 @@
 //! The inverse call against the reference and the values of 01.
 
 mod common;
+use common::refusals::{Arguments, Operation};
 use common::*;
 use lapped::{Mode, Size};
 use reference::random::{Random, Values};
@@ -93,9 +94,9 @@ fn largest_picture() {
 const INVERSE: Operation<4> = Operation {
     checks: &[1, 2, 3, 4, 5, 6, 7],
     lent: [4, 5, 6, 7],
-    library: |mode, size, slices, _| raw::inverse(mode, size, slices),
-    reference: |mode, size, [dc, low, high, samples], _| {
-        reference::inverse(mode, size, dc, low, high, samples)
+    library: |a, slices, _| raw::inverse(a.mode, a.size, slices),
+    reference: |a, [dc, low, high, samples], _| {
+        reference::inverse(a.mode, a.reference_size(), dc, low, high, samples)
     },
 };
 

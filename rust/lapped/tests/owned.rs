@@ -2,7 +2,8 @@
 
 mod common;
 use common::*;
-use lapped::{Mode, PlaneFile, Planes, Refusal};
+use lapped::{Mode, PlaneFile, Planes, Refusal, Steps};
+use reference::levels;
 use reference::random::{Random, Values};
 
 fn random_owned(random: &mut Random, width: u32, height: u32) -> Planes {
@@ -41,22 +42,57 @@ fn results_are_those_of_the_reference() {
     }
 }
 
+/// What the reference makes of each number of the planes and its band's step.
+fn by_number(planes: &Planes, steps: Steps, number: fn(i32, u32) -> i32) -> Planes {
+    let of = |plane: &[i32], index: u8| {
+        let step = levels::step(index.into()).unwrap();
+        plane.iter().map(|&value| number(value, step)).collect()
+    };
+    Planes {
+        size: planes.size,
+        dc: of(&planes.dc, steps.dc),
+        low: of(&planes.low, steps.low),
+        high: of(&planes.high, steps.high),
+    }
+}
+
+#[test]
+fn levels_are_those_of_the_reference() {
+    let mut random = Random::new(92);
+    let steps = Steps { dc: 3, low: 40, high: 200 };
+    for mode in Mode::ALL {
+        let planes = random_owned(&mut random, 3, 2);
+        let mut levels = by_number(&planes, steps, levels::quantise_number);
+        assert_eq!(planes.quantised(mode, steps).as_ref(), Ok(&levels), "{mode:?}");
+        let restored = |level, step| levels::restore_number(level, step).unwrap();
+        let restored = by_number(&levels, steps, restored);
+        assert_eq!(levels.restored(mode, steps), Ok(restored), "{mode:?}");
+
+        levels.high[0] = i32::MAX;
+        assert_eq!(levels.restored(mode, steps), Err(Refusal::Product), "{mode:?}");
+    }
+}
+
 /// The fields are open, so lengths may come not to fit; every call says so.
 #[test]
 fn planes_that_do_not_fit_their_size() {
-    let mode = Mode::BothLevels;
+    let (mode, steps) = (Mode::BothLevels, Steps::all(40));
     let sound = Planes::zeroed(size(2, 1));
     let mut file = PlaneFile { mode, planes: sound.clone() };
     file.planes.dc.pop();
     assert_eq!(file.to_samples(), Err(Refusal::DcLength));
     assert_eq!(file.to_quarter_view(), Err(Refusal::DcLength));
     assert_eq!(file.to_bytes(), Err(Refusal::DcLength));
+    assert_eq!(file.planes.quantised(mode, steps), Err(Refusal::DcLength));
+    assert_eq!(file.planes.restored(mode, steps), Err(Refusal::DcLength));
 
     file.planes = sound.clone();
     file.planes.low.push(0);
     assert_eq!(file.to_samples(), Err(Refusal::LowPassLength));
     assert_eq!(file.to_quarter_view(), Err(Refusal::LowPassLength));
     assert_eq!(file.to_bytes(), Err(Refusal::LowPassLength));
+    assert_eq!(file.planes.quantised(mode, steps), Err(Refusal::LowPassLength));
+    assert_eq!(file.planes.restored(mode, steps), Err(Refusal::LowPassLength));
 
     file.planes = sound;
     file.planes.size = size(1, 2);
@@ -65,6 +101,8 @@ fn planes_that_do_not_fit_their_size() {
     assert_eq!(file.to_samples(), Err(Refusal::HighPassLength));
     assert!(file.to_quarter_view().is_ok(), "the view asks nothing of the high-pass plane");
     assert_eq!(file.to_bytes(), Err(Refusal::HighPassLength));
+    assert_eq!(file.planes.quantised(mode, steps), Err(Refusal::HighPassLength));
+    assert_eq!(file.planes.restored(mode, steps), Err(Refusal::HighPassLength));
 
     assert_eq!(Planes::from_samples(mode, size(1, 1), &[0; 257]), Err(Refusal::SamplesLength));
     assert_eq!(PlaneFile::from_bytes(&[0; 32]), Err(Refusal::Width));

@@ -1,6 +1,7 @@
 //! Header, load and save against the reference and the layout of 01.
 
 mod common;
+use common::refusals::{bad_sides, faults, Arguments, Operation, BAD_MODES};
 use common::*;
 use lapped::{Header, Mode, PlaneFile, Planes, PlanesMut, Refusal};
 use lapped_sys::{lapped_header, lapped_size};
@@ -331,9 +332,9 @@ fn load_into_planes_of_every_wrong_length() {
 const SAVE: Operation<3> = Operation {
     checks: &[1, 2, 3, 4, 5, 6, 12],
     lent: [4, 5, 6],
-    library: raw::save,
-    reference: |mode, size, [dc, low, high], bytes| {
-        reference::plane_file::save(mode, size, dc, low, high, bytes)
+    library: |a, planes, bytes| raw::save(a.mode, a.size, planes, bytes),
+    reference: |a, [dc, low, high], bytes| {
+        reference::plane_file::save(a.mode, a.reference_size(), dc, low, high, bytes)
     },
 };
 

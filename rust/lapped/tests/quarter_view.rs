@@ -1,6 +1,7 @@
 //! The quarter view against the reference.
 
 mod common;
+use common::refusals::Operation;
 use common::*;
 use lapped::{Mode, PlanesRef};
 use reference::random::{Random, Values};
@@ -35,8 +36,10 @@ fn random_pictures() {
 const QUARTER_VIEW: Operation<3> = Operation {
     checks: &[1, 2, 3, 4, 5, 8],
     lent: [4, 5, 8],
-    library: |mode, size, slices, _| raw::quarter(mode, size, slices),
-    reference: |mode, size, [dc, low, view], _| reference::quarter_view(mode, size, dc, low, view),
+    library: |a, slices, _| raw::quarter(a.mode, a.size, slices),
+    reference: |a, [dc, low, view], _| {
+        reference::quarter_view(a.mode, a.reference_size(), dc, low, view)
+    },
 };
 
 #[test]

@@ -1,6 +1,7 @@
 //! Modes, sizes and refusals: that the wrapper draws its lines where the library does.
 
 mod common;
+use common::refusals::{bad_sides, BAD_MODES};
 use common::*;
 use lapped::{Mode, Planes, PlanesMut, PlanesRef, Refusal, Size};
 use std::collections::HashSet;

@@ -1,5 +1,7 @@
-//! The values that 01 gives, starred and unstarred, held against the reference.
+//! The values that 01 gives, starred and unstarred, and values worked out by hand from the rules of 02,
+//! held against the reference.
 
+use reference::levels::{quantise_number, restore_number, step};
 use reference::operators::inverse as op;
 use reference::operators::{FORWARD_REORDER, INVERSE_REORDER};
 use reference::plane_file::{read_header, save};
@@ -104,4 +106,38 @@ fn limits_of_files() {
     let longer = [&sound[..], &[0]].concat();
     assert_eq!(read_header(&longer), Err(12));
     assert_eq!(program::output(&file_of_dc(0, Size::new(17, 1), 64)), "refused 13\n");
+}
+
+#[test]
+fn steps_of_indices() {
+    for (index, expected) in [(0, 1), (1, 1), (2, 2), (15, 15), (16, 16), (31, 31)] {
+        assert_eq!(step(index), Some(expected), "index {index}");
+    }
+    // (16 + 1) × 2, (16 + 15) × 2, (16 + 8) × 4, (16 + 8) × 2^11 and (16 + 15) × 2^14.
+    for (index, expected) in [(33, 34), (47, 62), (56, 96), (200, 49_152), (255, 507_904)] {
+        assert_eq!(step(index), Some(expected), "index {index}");
+    }
+    assert_eq!([256, u32::MAX].map(step), [None, None]);
+}
+
+/// Half a step counts as one more; an odd step has no number at its half.
+#[test]
+fn levels_of_coefficients() {
+    let by = |step, coefficients: [i32; 6]| coefficients.map(|c| quantise_number(c, step));
+    assert_eq!(by(4, [0, 1, 2, 5, 6, 9]), [0, 0, 1, 1, 2, 2]);
+    assert_eq!(by(4, [-1, -2, -5, -6, -9, -10]), [0, -1, -1, -2, -2, -3]);
+    assert_eq!(by(5, [2, 3, 7, 8, -2, -3]), [0, 1, 1, 2, 0, -1]);
+    assert_eq!(quantise_number(-2_147_483_648, 1), -2_147_483_648);
+    assert_eq!(quantise_number(-2_147_483_648, 2), -1_073_741_824);
+    assert_eq!(quantise_number(2_147_483_647, 2), 1_073_741_824);
+    assert_eq!(quantise_number(2_147_483_647, 507_904), 4_228);
+}
+
+#[test]
+fn coefficients_of_levels() {
+    assert_eq!(restore_number(-3, 40), Some(-120));
+    assert_eq!(restore_number(-1_073_741_824, 2), Some(-2_147_483_648));
+    assert_eq!(restore_number(1_073_741_824, 2), None);
+    assert_eq!(restore_number(-4_228, 507_904), Some(-2_147_418_112));
+    assert_eq!(restore_number(-4_229, 507_904), None);
 }

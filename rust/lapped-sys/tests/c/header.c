@@ -10,6 +10,9 @@ static void print_version(void) {
 static void print_layout(void) {
     printf("size %u: %u %u\n", (unsigned)sizeof(lapped_size),
            (unsigned)offsetof(lapped_size, width), (unsigned)offsetof(lapped_size, height));
+    printf("steps %u: %u %u %u\n", (unsigned)sizeof(lapped_steps),
+           (unsigned)offsetof(lapped_steps, dc), (unsigned)offsetof(lapped_steps, low),
+           (unsigned)offsetof(lapped_steps, high));
     printf("header %u: %u %u %u\n", (unsigned)sizeof(lapped_header),
            (unsigned)offsetof(lapped_header, number), (unsigned)offsetof(lapped_header, mode),
            (unsigned)offsetof(lapped_header, size));
@@ -34,10 +37,12 @@ static void print_answers(void) {
                                      LAPPED_REFUSED_LAST_WORD,
                                      LAPPED_REFUSED_OFFSETS,
                                      LAPPED_REFUSED_FILE_LENGTH,
-                                     LAPPED_REFUSED_TOO_MANY_MACROBLOCKS};
+                                     LAPPED_REFUSED_TOO_MANY_MACROBLOCKS,
+                                     LAPPED_REFUSED_STEP_INDEX,
+                                     LAPPED_REFUSED_PRODUCT};
     for (size_t i = 0; i < sizeof answers / sizeof *answers; i++)
         printf("answer %d: %s\n", answers[i], lapped_message((uint32_t)answers[i]));
-    printf("14: %s\n4294967295: %s\n", lapped_message(14), lapped_message(UINT32_MAX));
+    printf("16: %s\n4294967295: %s\n", lapped_message(16), lapped_message(UINT32_MAX));
 }
 
 static void print_lengths(void) {

@@ -1,6 +1,7 @@
-//! The functions of the C interface on slices, with any mode, size and lengths, and their numbers.
+//! The functions of the C interface on slices, with any mode, size, steps and lengths, and their
+//! numbers.
 
-use lapped_sys::{lapped_header, lapped_size};
+use lapped_sys::{lapped_header, lapped_size, lapped_steps};
 
 /// Calls a function with plain arguments, then slices that it reads, then slices that it writes.
 macro_rules! call {
@@ -29,6 +30,28 @@ pub fn quarter(mode: u32, size: lapped_size, slices: [&mut [i32]; 3]) -> u32 {
 pub fn forward(mode: u32, size: lapped_size, slices: [&mut [i32]; 4]) -> u32 {
     let [samples, dc, low, high] = slices;
     call!(lapped_forward(mode, size); samples; dc, low, high)
+}
+
+pub fn step(index: u32) -> u32 {
+    call!(lapped_step(index);;)
+}
+
+/// From the first three slices to the others; the steps are those of DC, low-pass and high-pass.
+pub fn quantise(mode: u32, size: lapped_size, steps: [u32; 3], slices: [&mut [i32]; 6]) -> u32 {
+    let steps = raw_steps(steps);
+    let [dc, low, high, dc_levels, low_levels, high_levels] = slices;
+    call!(lapped_quantise(mode, size, steps); dc, low, high; dc_levels, low_levels, high_levels)
+}
+
+/// As `quantise`.
+pub fn restore(mode: u32, size: lapped_size, steps: [u32; 3], slices: [&mut [i32]; 6]) -> u32 {
+    let steps = raw_steps(steps);
+    let [dc_levels, low_levels, high_levels, dc, low, high] = slices;
+    call!(lapped_restore(mode, size, steps); dc_levels, low_levels, high_levels; dc, low, high)
+}
+
+fn raw_steps([dc, low, high]: [u32; 3]) -> lapped_steps {
+    lapped_steps { dc, low, high }
 }
 
 pub fn read_header(bytes: &[u8]) -> lapped_header {
