@@ -4,6 +4,8 @@ mod diff;
 mod export;
 mod import;
 mod info;
+mod quantise;
+mod restore;
 mod roundtrip;
 
 use crate::failure::{Failure, Outcome};
@@ -38,6 +40,8 @@ commands! {
     Info in info,
     Export in export,
     Import in import,
+    Quantise in quantise,
+    Restore in restore,
     Roundtrip in roundtrip,
     Diff in diff,
 }

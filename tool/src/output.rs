@@ -99,6 +99,16 @@ pub fn report(text: &str) -> Result<(), Failure> {
     done.map_err(|error| Failure::system(Path::new("standard output"), error))
 }
 
+/// Writes the report of a command that wrote a file to `path`. Where that is standard output, the
+/// file's bytes are alone there and the report goes to standard error.
+pub fn report_beside(path: &Path, text: &str) -> Result<(), Failure> {
+    if path != Path::new("-") {
+        return report(text);
+    }
+    eprint!("{text}");
+    Ok(())
+}
+
 #[cfg(test)]
 mod tests {
     use super::*;

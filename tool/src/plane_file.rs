@@ -1,8 +1,9 @@
-//! Plane files, read no further than their header tells.
+//! Plane files: read no further than their header tells, and written.
 
 use crate::failure::Failure;
-use crate::input;
-use lapped::{PlaneFile, Refusal};
+use crate::progress::Progress;
+use crate::{input, output};
+use lapped::{Mode, PlaneFile, Planes, Refusal};
 use std::io::{self, Read};
 use std::path::Path;
 
@@ -37,4 +38,35 @@ pub fn bytes(file: &mut impl Read) -> io::Result<Vec<u8>> {
         bytes.truncate(filled);
     }
     Ok(bytes)
+}
+
+/// Writes a plane file. Its planes and its bytes are in memory, so the caller holds nothing more.
+pub fn write(path: &Path, file: &PlaneFile, progress: &Progress) -> Result<(), Failure> {
+    let bytes = file.to_bytes().map_err(|refusal| Failure::refused(path, refusal))?;
+    let pieces = bytes.chunks(1_000_000);
+    let bar = progress.bar(pieces.len(), "megabytes");
+    output::write_whole(path, |out| {
+        for piece in pieces {
+            out.write_all(piece)?;
+            bar.one_more();
+        }
+        Ok(())
+    })
+}
+
+/// Writes what `make` makes of a file's planes as a plane file of the same mode and size, and gives
+/// it. In memory are the file's bytes and its planes, then these and what is made of them, then that
+/// and its bytes: two copies at a time.
+pub fn convert(
+    from: &Path,
+    to: &Path,
+    progress: &Progress,
+    make: impl FnOnce(Mode, &Planes) -> Result<Planes, Refusal>,
+) -> Result<Planes, Failure> {
+    let PlaneFile { mode, planes } = read(from)?;
+    let made = make(mode, &planes).map_err(|refusal| Failure::refused(from, refusal))?;
+    drop(planes);
+    let file = PlaneFile { mode, planes: made };
+    write(to, &file, progress)?;
+    Ok(file.planes)
 }

@@ -1,4 +1,4 @@
-//! How much memory a command takes: a file's planes and samples, and no third copy of them.
+//! How much memory a command takes: a file's planes and samples or levels, and no third copy.
 
 mod common;
 use common::pictures::Grey;
@@ -18,18 +18,21 @@ fn lapped_within(kilobytes: u32, arguments: &[&str]) -> Ran {
 }
 
 #[test]
-fn planes_and_samples_and_no_third_copy() {
+fn two_copies_and_no_third() {
     let folder = Folder::new("memory");
     let grey = Grey::any(16 * WIDTH as usize, 16 * HEIGHT as usize, 16);
     let picture = folder.write("in.png", &grey.to_file("png"));
     let file = folder.write("planes", &file_of_samples(2, Size::new(WIDTH, HEIGHT), &grey.samples));
     let (out, planes) = (folder.path("out.png"), folder.path("out.planes"));
+    let (levels, restored) = (folder.path("out.levels"), folder.path("restored"));
     let range = ["--range", "0:65535"];
-    let commands: [Vec<&str>; 5] = [
+    let commands: [Vec<&str>; 7] = [
         vec!["info", &file],
         [&["export", &file, "-o", &out], &range[..]].concat(),
         vec!["export", &file, "--quarter", "-o", &out, "--range", "auto"],
         vec!["import", &picture, "-m", "2", "-o", &planes],
+        vec!["quantise", &file, "-s", "10,20,40", "-o", &levels],
+        vec!["restore", &levels, "-s", "10,20,40", "-o", &restored],
         vec!["roundtrip", &file],
     ];
     for arguments in &commands {

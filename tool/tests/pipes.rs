@@ -5,6 +5,7 @@ use common::pictures::{coloured, Grey};
 use common::*;
 use reference::random::{Random, Values};
 use reference::Size;
+use std::fs;
 use std::io::{Read, Write};
 use std::process::{Command, Stdio};
 use std::time::Duration;
@@ -24,6 +25,17 @@ fn each_command_reads_and_writes_pipes() {
         let ran = lapped_reading(&[&["export", "-", "-o", "-"], options].concat(), &plane_file);
         ran.assert_done("export");
         assert_eq!(Grey::from_file(format, &ran.out), grey, "export {options:?}");
+    }
+
+    // The file on standard output, the report on standard error.
+    for command in ["quantise", "restore"] {
+        let out = folder.path("out");
+        let piped = lapped_reading(&[command, "-", "-s", "9,8,7", "-o", "-"], &plane_file);
+        let named = lapped(&[command, &path, "-s", "9,8,7", "-o", &out]);
+        named.assert_done(command);
+        assert_eq!((piped.status, piped.err.as_str()), (0, named.text()), "{command}");
+        assert!(!piped.err.is_empty() && piped.out == folder.read("out"), "{command}");
+        fs::remove_file(out).unwrap();
     }
 
     for command in ["info", "roundtrip"] {
@@ -54,6 +66,8 @@ fn a_chain() {
     let line = "\"$lapped\" import \"$1\" -m 1 -o - \
                 | \"$lapped\" export - --range 0:65535 -f pgm -o - \
                 | \"$lapped\" import - -m 2 -o - \
+                | \"$lapped\" quantise - -s 0 -o - 2>/dev/null \
+                | \"$lapped\" restore - -s 0 -o - 2>/dev/null \
                 | \"$lapped\" export - --range 0:65535 -o -";
     let ran = shell(line, &[&picture]);
     ran.assert_done("the chain");

@@ -20,11 +20,13 @@ fn folder_with_files(test: &str) -> (Folder, String, String, String) {
 const FILES: [&str; 3] = ["in.pgm", "one", "other"];
 
 /// Every command that writes, with where it is to write.
-fn writers<'a>(picture: &'a str, one: &'a str, other: &'a str, out: &'a str) -> [Vec<&'a str>; 4] {
+fn writers<'a>(picture: &'a str, one: &'a str, other: &'a str, out: &'a str) -> [Vec<&'a str>; 6] {
     [
         vec!["import", picture, "-m", "1", "-o", out],
         vec!["export", one, "--range", "0:65535", "--format", "png", "-o", out],
         vec!["export", one, "--range", "0:65535", "--format", "pgm", "-o", out],
+        vec!["quantise", one, "-s", "40", "-o", out],
+        vec!["restore", one, "-s", "40", "-o", out],
         vec!["diff", one, other, "-o", out],
     ]
 }
@@ -172,6 +174,8 @@ fn links_and_permissions() {
 fn in_place() {
     let (folder, picture, _, _) = folder_with_files("in_place");
     lapped(&["import", &picture, "-m", "2", "-o", &picture]).assert_done("import");
+    lapped(&["quantise", &picture, "-s", "1", "-o", &picture]).assert_done("quantise");
+    lapped(&["restore", &picture, "-s", "1", "-o", &picture]).assert_done("restore");
     lapped(&["export", &picture, "--range", "0:65535", "-o", &picture]).assert_done("export");
     assert_eq!(Grey::from_file("pgm", &folder.read("in.pgm")), Grey::any(64, 48, 16));
 }

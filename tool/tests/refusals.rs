@@ -7,10 +7,12 @@ use png::{BitDepth, ColorType};
 use reference::random::Random;
 
 /// What each command does with one plane file, in which there is a fault.
-fn commands<'a>(faulty: &'a str, sound: &'a str, out: &'a str) -> [Vec<&'a str>; 5] {
+fn commands<'a>(faulty: &'a str, sound: &'a str, out: &'a str) -> [Vec<&'a str>; 7] {
     [
         vec!["info", faulty],
         vec!["export", faulty, "-o", out],
+        vec!["quantise", faulty, "-s", "40", "-o", out],
+        vec!["restore", faulty, "-s", "40", "-o", out],
         vec!["roundtrip", faulty],
         vec!["diff", faulty, sound, "-o", out],
         vec!["diff", sound, faulty],

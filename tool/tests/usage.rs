@@ -11,7 +11,7 @@ fn wrong_usage() {
     let folder = Folder::new("wrong_usage");
     let (file, out) = (folder.write("planes", &some_file(50)), folder.path("out.png"));
     let other = folder.path("out.tiff");
-    let calls: [&[&str]; 21] = [
+    let calls: [&[&str]; 27] = [
         &[],
         &["quantize"],
         &["info"],
@@ -29,6 +29,12 @@ fn wrong_usage() {
         &["import", &file, "-m", "3", "-o", &out],
         &["import", &file, "-m", "two", "-o", &out],
         &["import", &file, "-m", "2"],
+        &["quantise", &file, "-o", &out],
+        &["quantise", &file, "-s", "40"],
+        &["quantise", &file, "-s", "-o", &out],
+        &["restore", &file, "-o", &out],
+        &["restore", &file, "-s", "40"],
+        &["restore", "-s", "40", "-o", &out],
         &["diff", &file],
         &["diff", &file, &file, "-o", &other],
         &["diff", "-", "-"],
@@ -69,7 +75,7 @@ fn examples_of_the_help_work() {
     let help = lapped(&["--help"]);
     help.assert_done("--help");
     let all = examples(help.text());
-    let commands = ["info", "export", "import", "roundtrip", "diff"];
+    let commands = ["info", "export", "import", "quantise", "restore", "roundtrip", "diff"];
     assert_eq!(all.len(), commands.len(), "{all:?}");
     for (example, command) in all.iter().zip(commands) {
         assert!(example.starts_with(&format!("lapped {command} ")), "{example}");
@@ -88,6 +94,9 @@ fn examples_of_the_help_work() {
     );
     assert_eq!(Grey::from_file("png", &folder.read("disc.png")).height, 32);
     assert!(folder.names().contains(&"heat.png".to_string()));
+    for name in ["disc.levels", "restored.planes"] {
+        assert_eq!(folder.read(name).len(), fs::read(disc).unwrap().len(), "{name}");
+    }
 }
 
 /// Runs the program on a terminal, which `script` makes; gives all that the terminal shows.
@@ -104,9 +113,13 @@ fn progress_bar() {
     let folder = Folder::new("progress_bar");
     let size = Size::new(60, 60);
     let file = folder.write("planes", &file_of_samples(1, size, &vec![5; 256 * 3600]));
-    let out = folder.path("out.png");
+    let picture = folder.write("in.pgm", &Grey::any(960, 960, 8).to_file("pgm"));
+    let (out, planes) = (folder.path("out.png"), folder.path("out.planes"));
     for (command, unit) in [
         (format!("export {file} -o {out}"), "rows"),
+        (format!("import {picture} -m 2 -o {planes}"), "megabytes"),
+        (format!("quantise {file} -s 40 -o {planes}"), "megabytes"),
+        (format!("restore {file} -s 40 -o {planes}"), "megabytes"),
         (format!("diff {file} {file} -o {out}"), "rows"),
         (format!("roundtrip {file} {file} {file}"), "files"),
         (format!("info {file} {file}"), "files"),

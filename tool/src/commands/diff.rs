@@ -58,9 +58,9 @@ pub fn run(args: &Args, progress: &Progress) -> Result<Outcome, Failure> {
         output::write_whole(path, |out| heat.write(out, || bar.one_more()))?;
     }
     let report = found.report(size, &windows);
-    match args.output.as_deref() == Some(Path::new("-")) {
-        true => eprint!("{report}"),
-        false => output::report(&report)?,
+    match &args.output {
+        Some(path) => output::report_beside(path, &report)?,
+        None => output::report(&report)?,
     }
     Ok(if found.nothing(&windows) { Outcome::Done } else { Outcome::RefusedOrDifferent })
 }

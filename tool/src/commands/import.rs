@@ -2,7 +2,7 @@
 
 use crate::failure::{tell, Failure, Outcome};
 use crate::grey::Picture;
-use crate::output;
+use crate::plane_file;
 use crate::progress::Progress;
 use lapped::{Mode, PlaneFile, Planes, Refusal, Size};
 use std::path::{Path, PathBuf};
@@ -30,7 +30,7 @@ fn parse_mode(text: &str) -> Result<Mode, String> {
     Mode::try_from(number).map_err(|refusal| refusal.to_string())
 }
 
-pub fn run(args: &Args, _: &Progress) -> Result<Outcome, Failure> {
+pub fn run(args: &Args, progress: &Progress) -> Result<Outcome, Failure> {
     let refused = |refusal| Failure::refused(&args.input, refusal);
     let picture =
         Picture::read(&args.input).map_err(|error| Failure::system(&args.input, error))?;
@@ -41,8 +41,7 @@ pub fn run(args: &Args, _: &Progress) -> Result<Outcome, Failure> {
 
     let planes = Planes::from_samples(args.mode, size, &samples).map_err(refused)?;
     drop(samples);
-    let bytes = PlaneFile { mode: args.mode, planes }.to_bytes().map_err(refused)?;
-    output::write_whole(&args.output, |out| out.write_all(&bytes))?;
+    plane_file::write(&args.output, &PlaneFile { mode: args.mode, planes }, progress)?;
     Ok(Outcome::Done)
 }
 
