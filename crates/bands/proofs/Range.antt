@@ -1,7 +1,7 @@
 -- Numbers outside the range: found by a walk from the front, one number at a time; and where none is found, each number is inside. By induction on the list.
 use Prim.Native.Nat.{ℕ, zero, suc, _+_, _≤_, _<_}
-use mathlib.Core.Path.{_≡_, refl, ap, _∙_}
-use mathlib.Core.Bool.{Bool, true, false, _||_}
+use mathlib.Core.Path.{_≡_, sym, ap, _∙_}
+use mathlib.Core.Bool.{Bool, false, _||_, or-false, or-assoc}
 use mathlib.Core.List.{List, [], _∷_, map}
 use native.Mathlib.Omega.{arith}
 use native.Mathlib.Numerals.{add-one}
@@ -10,22 +10,14 @@ use lib.ListN.{length, take}
 use lib.Seq.{take-all}
 use Rattle.lifting.specs.Program.{at}
 use Rattle.picture.proofs.CheckLaws.{either-false}
-use Rattle.step_sizes.specs.Quantise.{outOfRange}
+use Rattle.step_sizes.specs.Levels.{outOfRange}
 use Rattle.bands.specs.Bands.{anyOut}
-
-or-false : (a : Bool) → a ≡ a || false
-or-false true = refl
-or-false false = refl
-
-or-assoc : (a b c : Bool) → (a || b) || c ≡ a || (b || c)
-or-assoc true b c = refl
-or-assoc false b c = refl
 
 -- one number more is looked at
 next : (f : ℤ → ℤ) (levels : List ℤ) (i : ℕ) → i < length levels
     → anyOut (map f (take i levels)) || outOfRange (f (at levels i)) ≡ anyOut (map f (take (suc i) levels))
 next f [] i h = absurd (omega arith)
-next f (x ∷ levels) zero h = or-false (outOfRange (f x))
+next f (x ∷ levels) zero h = sym (or-false (outOfRange (f x)))
 next f (x ∷ levels) (suc i) h =
     or-assoc (outOfRange (f x)) (anyOut (map f (take i levels))) (outOfRange (f (at levels i))) ∙ ap (λ (b : Bool). outOfRange (f x) || b) (next f levels i (omega arith))
 

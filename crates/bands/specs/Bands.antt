@@ -7,7 +7,7 @@ use lib.IntN.{ℤ}
 use lib.ListN.{length}
 use Rattle.picture.specs.Planes.{Planes, planes}
 use Rattle.step_sizes.specs.Steps.{stepOf}
-use Rattle.step_sizes.specs.Quantise.{outOfRange}
+use Rattle.step_sizes.specs.Levels.{outOfRange}
 use Rattle.bands.specs.declared.steps.Steps.{Steps}
 
 -- each number of each band by the band's step

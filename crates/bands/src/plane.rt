@@ -5,7 +5,7 @@ ghost use mathlib.Core.List.{map};
 ghost use Prim.Native.Nat.{_≤_};
 ghost use lib.ListN.{length};
 ghost use Rattle.step_sizes.specs.Steps.{stepOf};
-ghost use Rattle.step_sizes.specs.Quantise.{quantised, restored};
+ghost use Rattle.step_sizes.specs.Levels.{quantised, restored};
 ghost use Rattle.bands.specs.Bands.{anyOut};
 use step_sizes::division::divisor_of;
 use step_sizes::number::leaves_range;

@@ -1,22 +1,12 @@
 -- One table undoes another: a test that computes, entry by entry, and what it says of an entry.
-use Prim.Native.Nat.{ℕ, zero, suc, _<_}
+use Prim.Native.Nat.{ℕ, _<_}
 use mathlib.Core.Path.{_≡_}
-use mathlib.Core.Bool.{Bool, true, _&&_}
+use mathlib.Core.Bool.{Bool, _&&_}
 use mathlib.Core.List.{List}
-use native.Mathlib.Omega.{arith}
 use lib.Dec.{T, ltb, eqb, ltb→lt, eqb→eq}
 use lib.ListN.{getD}
 use mir.Facts.{and-yes}
-
--- the test f passes at each number below n
-abbrev all : ℕ → (ℕ → Bool) → Bool
-all zero f = true
-all (suc n) f = f 0 && all n (λ k. f (suc k))
-
-all-at : (n : ℕ) (f : ℕ → Bool) → T (all n f) → (k : ℕ) → k < n → T (f k)
-all-at zero f t k h = absurd (omega arith)
-all-at (suc n) f t zero h = and-yes (f 0) _ t .0
-all-at (suc n) f t (suc k) h = all-at n (λ i. f (suc i)) (and-yes (f 0) _ t .1) k (omega arith)
+use Rattle.lifting.proofs.Tests.{all, all-at}
 
 abbrev backAt : List ℕ → List ℕ → ℕ → Bool
 backAt ps qs k = ltb (getD ps k 0) 16 && eqb (getD qs (getD ps k 0) 0) k

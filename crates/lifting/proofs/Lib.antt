@@ -1,3 +1,4 @@
+pub mod Tests
 pub mod WrapLaws
 pub mod Bits
 pub mod Compose

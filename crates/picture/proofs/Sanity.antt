@@ -10,6 +10,7 @@ use lib.Seq.{getD-set-other}
 use lib.IntN.{ℤ, pos, negsuc}
 use mir.Val.{SFits}
 use mir.Syntax.{w32}
+use Rattle.lifting.proofs.Tests.{all}
 use Rattle.lifting.specs.Row.{Row}
 use Rattle.lifting.specs.Wrap.{wrap}
 use Rattle.lifting.specs.Program.{end, at, run, line, value, get, put, _then_, each}
@@ -60,30 +61,26 @@ abbrev some : ℕ → (ℕ → Bool) → Bool
 some zero f = false
 some (suc n) f = f n || some n f
 
-abbrev every : ℕ → (ℕ → Bool) → Bool
-every zero f = true
-every (suc n) f = f n && every n f
-
 -- 2 x 1, modes 1 and 2: the columns that change with the DC number of the left macroblock are those of its window
 abbrev left : ℕ → List ℤ
 left mode = inverse mode (of 2 1) (dcOnly 2 (pos 4096 ∷ pos 0 ∷ []))
 
 abbrev columnsBelow : ℕ → List ℤ → Bool
-columnsBelow c samples = every 32 (λ x. Bool·beq (some 16 (λ y. changed (at samples (y * 32 + x)))) (ltb x c))
+columnsBelow c samples = all 32 (λ x. Bool·beq (some 16 (λ y. changed (at samples (y * 32 + x)))) (ltb x c))
 
 -- 1 x 2, mode 2: the rows that change with the DC number of the lower macroblock are those of its window
 abbrev lower : List ℤ
 lower = inverse 2 (of 1 2) (dcOnly 2 (pos 0 ∷ pos 4096 ∷ []))
 
 abbrev rowsFrom : ℕ → List ℤ → Bool
-rowsFrom r samples = every 32 (λ y. Bool·beq (some 16 (λ x. changed (at samples (y * 16 + x)))) (leb r y))
+rowsFrom r samples = all 32 (λ y. Bool·beq (some 16 (λ x. changed (at samples (y * 16 + x)))) (leb r y))
 
 -- 1 x 1, mode 1: the columns that change with a high-pass number of block 5, whose own are 4 to 7, are those of its window
 abbrev inner : List ℤ
 inner = inverse 1 (of 1 1) (record { dc = table 1 (λ i. pos 0); low = table 15 (λ i. pos 0); high = set (table 240 (λ i. pos 0)) 75 (pos 4096) })
 
 abbrev columnsBetween : ℕ → ℕ → List ℤ → Bool
-columnsBetween a b samples = every 16 (λ x. Bool·beq (some 16 (λ y. changed (at samples (y * 16 + x)))) (leb a x && ltb x b))
+columnsBetween a b samples = all 16 (λ x. Bool·beq (some 16 (λ y. changed (at samples (y * 16 + x)))) (leb a x && ltb x b))
 
 pub reached : T (columnsBelow (16 + lowMargin 1) (left 1) && columnsBelow (16 + lowMargin 2) (left 2) && rowsFrom (16 - lowMargin 2) lower && columnsBetween (4 - highMargin 1) (8 + highMargin 1) inner)
 unfolding wrap run line value get put _then_ each hadamard odd oddOdd core coreStages rotation scale postHadamard postOddOdd fourFilter squareFilter square coreAt squareFilterAt fourFilterAt cores squareFilters rowFilters columnFilters filters level table grid firstGrid secondGrid quarterBy inverseBy

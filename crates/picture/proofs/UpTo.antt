@@ -5,7 +5,7 @@ use mathlib.Core.List.{List, [], _∷_, _++_, append-assoc, append-nil, map}
 use native.Mathlib.Omega.{arith}
 use native.Mathlib.Numerals.{add-one}
 use lib.ListN.{length, drop, getD, set, length-set}
-use lib.Seq.{drop-cons, set-at}
+use lib.Seq.{drop-cons, drop-length, set-at}
 use lib.IntN.{ℤ, pos}
 use Rattle.lifting.specs.Program.{at}
 use Rattle.picture.specs.Planes.{table}
@@ -36,11 +36,7 @@ up-to-more {f} {p} {now} {i} u h q = record {
 }
 
 pub up-to-all : {f : ℕ → ℤ} {p now : List ℤ} {i : ℕ} → UpTo f p i now → i ≡ length p → now ≡ table (length p) f
-up-to-all {f} {p} u e = u .is ∙ rw (e, drop-whole p) (append-nil (table (length p) f))
-  where
-    drop-whole : (l : List ℤ) → drop (length l) l ≡ []
-    drop-whole [] = refl
-    drop-whole (x ∷ l) = drop-whole l
+up-to-all {f} {p} u e = u .is ∙ rw (e, drop-length p) (append-nil (table (length p) f))
 
 -- ---- each number from the one at its place in another list, which may be p itself
 

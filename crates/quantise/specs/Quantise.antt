@@ -5,7 +5,7 @@ use Rattle.picture.specs.declared.size.Size.{Size}
 use Rattle.picture.specs.Sizes.{macroblocks}
 use Rattle.picture.specs.Planes.{Planes}
 use Rattle.picture.specs.Numbers.{firstOf, shapeChecks}
-use Rattle.step_sizes.specs.Quantise.{quantised}
+use Rattle.step_sizes.specs.Levels.{quantised}
 use Rattle.bands.specs.declared.steps.Steps.{Steps}
 use Rattle.bands.specs.Bands.{byBands}
 use Rattle.bands.specs.Numbers.{bandChecks}

@@ -6,7 +6,7 @@ use Rattle.picture.specs.declared.size.Size.{Size}
 use Rattle.picture.specs.Sizes.{macroblocks}
 use Rattle.picture.specs.Planes.{Planes}
 use Rattle.picture.specs.Numbers.{_if_, firstOf, shapeChecks}
-use Rattle.step_sizes.specs.Quantise.{restored}
+use Rattle.step_sizes.specs.Levels.{restored}
 use Rattle.bands.specs.declared.steps.Steps.{Steps}
 use Rattle.bands.specs.Bands.{byBands, anyOut}
 use Rattle.bands.specs.Numbers.{bandChecks}
@@ -22,7 +22,9 @@ anyOutOf s = anyOut (s .dc) || (anyOut (s .low) || anyOut (s .high))
 abbrev pub rangeCheck : Steps → Planes → List ℕ
 rangeCheck steps levels = (15 if anyOutOf (restoredPlanes steps levels)) ∷ []
 
--- as quantise, and 15 after the lengths
+-- as for quantise, and 15 after the lengths
+abbrev pub restoreChecks : ℕ → Steps → Planes → Planes → List ℕ
+restoreChecks n steps read written = bandChecks n steps read written ++ rangeCheck steps read
+
 unfoldable pub restoreNumber : ℕ → Size → Steps → Planes → Planes → ℕ
-restoreNumber mode size steps read written =
-    firstOf (shapeChecks mode size ++ (bandChecks (macroblocks size) steps read written ++ rangeCheck steps read))
+restoreNumber mode size steps read written = firstOf (shapeChecks mode size ++ restoreChecks (macroblocks size) steps read written)

@@ -1,13 +1,11 @@
 // The call that restores: planes of levels to coefficient planes.
 ghost use mathlib.Core.Path.{_≡_};
 ghost use mathlib.Core.Bool.{false};
-ghost use mathlib.Core.List.{_++_};
 ghost use Rattle.picture.specs.Sizes.{Sized, macroblocks};
 ghost use Rattle.picture.specs.Planes.{planes};
 ghost use Rattle.picture.specs.Numbers.{firstOf, settled};
 ghost use Rattle.bands.specs.Bands.{Indexed, SameLengths};
-ghost use Rattle.bands.specs.Numbers.{bandChecks};
-ghost use Rattle.restore.specs.Restore.{restoredPlanes, anyOutOf, rangeCheck, restoreNumber};
+ghost use Rattle.restore.specs.Restore.{restoredPlanes, anyOutOf, restoreChecks, restoreNumber};
 use bands::plane::any_leaves_range;
 use bands::plane::restore_plane;
 use bands::steps::Steps;
@@ -63,8 +61,8 @@ fn restore_sized(
     high: &mut [i32],
 ) -> u32
     requires { ⌜ Sized size ⌝ }
-    ensures { λ r. ⌜ r ≡ firstOf (bandChecks (macroblocks size) steps (planes (now («dc_levels» .entry)) (now («low_levels» .entry)) (now («high_levels» .entry)))
-        (planes (now (dc .entry)) (now (low .entry)) (now (high .entry))) ++ rangeCheck steps (planes (now («dc_levels» .entry)) (now («low_levels» .entry)) (now («high_levels» .entry)))) ⌝ }
+    ensures { λ r. ⌜ r ≡ firstOf (restoreChecks (macroblocks size) steps (planes (now («dc_levels» .entry)) (now («low_levels» .entry)) (now («high_levels» .entry)))
+        (planes (now (dc .entry)) (now (low .entry)) (now (high .entry)))) ⌝ }
     ensures { λ r. ⌜ planes (now (dc .exit)) (now (low .exit)) (now (high .exit)) ≡
         settled r (restoredPlanes steps (planes (now («dc_levels» .entry)) (now («low_levels» .entry)) (now («high_levels» .entry))))
         (planes (now (dc .entry)) (now (low .entry)) (now (high .entry))) ⌝ }

@@ -10,7 +10,7 @@ use lib.IntN.{ℤ, pos, negsuc, negℤ, natAbs, one, _-ℤ_, _*ℤ_, *ℤ-one, n
 use mir.Val.{SFits}
 use mir.Syntax.{w32}
 use Rattle.step_sizes.specs.Steps.{stepOf}
-use Rattle.step_sizes.specs.Quantise.{quantised, restored}
+use Rattle.step_sizes.specs.Levels.{quantised, restored}
 use Rattle.step_sizes.specs.Claims.{Rounds, StepClaim}
 use Rattle.step_sizes.proofs.Reciprocal.{every-step-works}
 use Rattle.step_sizes.proofs.Rounding.{level-most, level-low, level-high, level-again}

@@ -1,4 +1,3 @@
-pub mod Tests
 pub mod Reciprocal
 pub mod Signs
 pub mod Rounding

@@ -1,15 +1,16 @@
 -- Division as a multiplication and a shift: a multiplier that is P / d rounded up gives each quotient whose error stays below P; that it does for every step of the table is computed.
 use Prim.Native.Nat.{ℕ, suc, _+_, _-_, _*_, _/_, _%_, _^_, _≤_, _<_}
 use mathlib.Core.Path.{_≡_, sym, _∙_, ap}
-use mathlib.Core.Bool.{Bool}
+use mathlib.Core.Bool.{Bool, true, _&&_}
 use mathlib.Core.List.{List, [], _∷_}
 use native.Mathlib.Omega.{arith}
 use native.Mathlib.Nat.{le-trans, le-of-eq, lt-of-lt-of-le, lt-of-le-of-lt, mul-assoc, mul-right-comm, mul-add, mul-le-mul, mul-le-mul-left, mul-le-mul-right, lt-of-mul-lt-mul-right, lt-suc-self, div-mul-le-self, div-lt-iff-lt-mul, div-eq-of-lt-le, suc-mul}
 use native.Mathlib.Numerals.{add-one}
 use lib.Dec.{T, lit<, ltb, leb, ltb→lt, leb→le}
 use lib.Count.{leadingZeros}
+use mir.Facts.{and-yes}
+use Rattle.lifting.proofs.Tests.{all-at}
 use Rattle.step_sizes.specs.Steps.{stepOf, largestStep}
-use Rattle.step_sizes.proofs.Tests.{all, all-true, below}
 
 -- m * d is P and a rest e, and n * e is below P: n * m / P is n / d
 module _ (d m P e n : ℕ) (positive : 0 < d) (product : m * d ≡ P + e) (small : n * e < P) where
@@ -57,15 +58,28 @@ pub record Works (d : ℕ) : Type 0 where
   pub least : 2 ^ shiftOf d ≤ multiplierOf d * d
   pub rest : (2147483648 + d / 2) * restOf d < 2 ^ shiftOf d
 
+-- several tests at once
+abbrev together : List Bool → Bool
+together [] = true
+together (b ∷ tests) = b && together tests
+
+abbrev Each : List Bool → Type 0
+Each [] = Unit {0}
+Each (b ∷ tests) = T b × Each tests
+
+each-of : (tests : List Bool) → T (together tests) → Each tests
+each-of [] t = tt
+each-of (b ∷ tests) t = let p = and-yes b (together tests) t in (p .0, each-of tests (p .1))
+
 tests : ℕ → List Bool
 tests d =
     ltb 0 d ∷ leb d largestStep ∷ ltb (shiftOf d) 64 ∷ ltb (powerOf d + d) (2 ^ 64)
     ∷ ltb (multiplierOf d) (2 ^ 32) ∷ leb (2 ^ shiftOf d) (multiplierOf d * d) ∷ ltb ((2147483648 + d / 2) * restOf d) (2 ^ shiftOf d) ∷ []
 
-at-step : (d : ℕ) → T (all (tests d)) → Works d
+at-step : (d : ℕ) → T (together (tests d)) → Works d
 unfolding tests
 at-step d t =
-    let (a, (b, (c, (e, (f, (g, (h, _))))))) = all-true (tests d) t in
+    let (a, (b, (c, (e, (f, (g, (h, _))))))) = each-of (tests d) t in
     record {
       positive = ltb→lt _ _ a;
       small = leb→le _ _ b;
@@ -78,7 +92,7 @@ at-step d t =
 
 pub every-step-works : (index : ℕ) → index ≤ 255 → Works (stepOf index)
 unfolding tests stepOf leadingZeros
-every-step-works index h = at-step (stepOf index) (below 256 (λ (i : ℕ). all (tests (stepOf i))) tt index (omega arith))
+every-step-works index h = at-step (stepOf index) (all-at 256 (λ (i : ℕ). together (tests (stepOf i))) tt index (omega arith))
 
 pub divides : (d n : ℕ) → Works d → n ≤ 2147483648 + d / 2 → n * multiplierOf d / 2 ^ shiftOf d ≡ n / d
 divides d n w h =

@@ -2,7 +2,7 @@
 use mathlib.Core.Path.{_≡_, refl}
 use lib.IntN.{pos, negsuc}
 use Rattle.step_sizes.specs.Steps.{stepOf, largestStep, stepAnswer}
-use Rattle.step_sizes.specs.Quantise.{quantised}
+use Rattle.step_sizes.specs.Levels.{quantised}
 
 steps : (stepOf 0 ≡ 1) × (stepOf 1 ≡ 1) × (stepOf 15 ≡ 15) × (stepOf 16 ≡ 16) × (stepOf 31 ≡ 31) × (stepOf 32 ≡ 32) × (stepOf 33 ≡ 34) × (stepOf 255 ≡ largestStep) × (stepAnswer 256 ≡ 0)
 unfolding stepOf

@@ -1,7 +1,7 @@
 -- Magnitudes and signs, and products that leave the range: by cases on the sign, each is a statement about natural numbers.
 use Prim.Native.Nat.{ℕ, zero, suc, _*_, _/_, _≤_, _<_}
 use mathlib.Core.Path.{_≡_, refl, subst, sym}
-use mathlib.Core.Bool.{Bool, true, false, _||_}
+use mathlib.Core.Bool.{Bool, true, false, _||_, or-false}
 use native.Mathlib.Omega.{arith}
 use native.Mathlib.Nat.{div-lt-iff-lt-mul}
 use borrow.Author.Tests.{ltb-true, ltb-false, lt-ltb, le-ltb}
@@ -10,7 +10,7 @@ use lib.IntN.{ℤ, pos, negsuc, negℤ, natAbs, _-ℤ_, +ℤ-idl}
 use lib.Signed.{ltZ}
 use mir.Val.{SFits}
 use mir.Syntax.{w32}
-use Rattle.step_sizes.specs.Quantise.{signed, restored, outOfRange}
+use Rattle.step_sizes.specs.Levels.{signed, restored, outOfRange}
 
 pub negated : (x : ℤ) → pos 0 -ℤ x ≡ negℤ x
 negated x = +ℤ-idl (negℤ x)
@@ -64,7 +64,7 @@ below-test : (n k : ℕ) → ltZ (negsuc n) (negℤ (pos k)) ≡ ltb k (suc n)
 below-test n zero = sym (lt-ltb 0 (suc n) (omega arith))
 below-test n (suc k) = same-test k n (suc k) (suc n) (λ h. omega arith) (λ h. omega arith)
 
-pub below-range : (p : ℕ) → outOfRange (negℤ (pos p)) ≡ ltb 2147483648 p
+below-range : (p : ℕ) → outOfRange (negℤ (pos p)) ≡ ltb 2147483648 p
 below-range zero = refl
 below-range (suc p) = same-test 2147483647 p 2147483648 (suc p) (λ h. omega arith) (λ h. omega arith)
 
@@ -77,10 +77,6 @@ pub outside-limits : (s : ℕ) → 0 < s → (level : ℤ)
 outside-limits s h (pos n) = rw (not-below n (2147483648 / s)) (quotient-test s 2147483647 n h)
 outside-limits s h (negsuc n) =
     rw (below-test n (2147483648 / s), below-range (suc n * s), quotient-test s 2147483648 (suc n) h) (or-false (ltb 2147483648 (suc n * s)))
-  where
-    or-false : (b : Bool) → b || false ≡ b
-    or-false true = refl
-    or-false false = refl
 
 pub in-range : (z : ℤ) → outOfRange z ≡ false → SFits w32 z
 in-range (pos n) e = record { sfits = omega (arith, ltb-false 2147483647 n e) }

@@ -5,7 +5,7 @@ use lib.IntN.{ℤ, pos, natAbs, _-ℤ_}
 use mir.Val.{SFits}
 use mir.Syntax.{w32}
 use Rattle.step_sizes.specs.Steps.{stepOf}
-use Rattle.step_sizes.specs.Quantise.{quantised, restored}
+use Rattle.step_sizes.specs.Levels.{quantised, restored}
 
 -- zero gives zero; the level of any number of 32 bits, -2147483648 too, is a number of 32 bits; the error is at most step div 2, over whole numbers;
 -- and a restored level quantises to itself

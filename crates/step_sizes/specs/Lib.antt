@@ -1,4 +1,4 @@
 pub mod Steps
-pub mod Quantise
+pub mod Levels
 pub mod Parts
 pub mod Claims

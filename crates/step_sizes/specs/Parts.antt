@@ -9,7 +9,7 @@ use lib.Signed.{ltZ}
 use Rattle.step_sizes.specs.declared.division.Divisor.{Divisor}
 use Rattle.step_sizes.specs.declared.number.Limits.{Limits}
 use Rattle.step_sizes.specs.Steps.{largestStep}
-use Rattle.step_sizes.specs.Quantise.{restored, outOfRange}
+use Rattle.step_sizes.specs.Levels.{restored, outOfRange}
 
 -- the table's entry at a place
 pub record Entry (table : List ℕ) (at value : ℕ) : Type 0 where

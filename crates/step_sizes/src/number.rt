@@ -4,7 +4,7 @@ ghost use mathlib.Core.Bool.{false};
 ghost use Prim.Native.Nat.{_≤_, _<_};
 ghost use lib.IntN.{natAbs};
 ghost use Rattle.step_sizes.specs.Steps.{largestStep};
-ghost use Rattle.step_sizes.specs.Quantise.{signed, quantised, restored, outOfRange};
+ghost use Rattle.step_sizes.specs.Levels.{signed, quantised, restored, outOfRange};
 ghost use Rattle.step_sizes.specs.Parts.{Divides, LimitsOf};
 use crate::division::Divisor;
 use crate::division::divide;

@@ -1,13 +1,12 @@
 -- The checks of mode and size refuse, or those of the steps, the lengths and the products decide.
 use Prim.Native.Nat.{ℕ}
 use mathlib.Core.Path.{sym, _∙_}
-use mathlib.Core.List.{List, _++_}
+use mathlib.Core.List.{List}
 use borrow.Author.Needs.{needs}
 use Rattle.picture.specs.Sizes.{macroblocks}
 use Rattle.picture.specs.Planes.{Planes, planes}
 use Rattle.picture.proofs.CheckLaws.{refused-call, ready-number, ready-sized}
-use Rattle.restore.specs.Restore.{restoredPlanes, rangeCheck, restoreNumber}
-use Rattle.bands.specs.Numbers.{bandChecks}
+use Rattle.restore.specs.Restore.{restoredPlanes, restoreChecks, restoreNumber}
 use Rattle.restore.proofs.restore.Statement.{statement}
 use Rattle.restore.proofs.restore.Tie as tie
 
@@ -19,7 +18,7 @@ was s = planes (s .args .dc .now) (s .args .low .now) (s .args .high .now)
 
 -- the checks after those of mode and size
 abbrev rest : tie.Start → List ℕ
-rest s = bandChecks (macroblocks (s .args .size)) (s .args .steps) (read s) (was s) ++ rangeCheck (s .args .steps) (read s)
+rest s = restoreChecks (macroblocks (s .args .size)) (s .args .steps) (read s) (was s)
 
 restore-sized-requires : tie.Need-restore-sized-requires
 restore-sized-requires c κs =

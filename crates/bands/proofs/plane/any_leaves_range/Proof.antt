@@ -9,7 +9,7 @@ use Rattle.lifting.specs.Program.{at}
 use Rattle.lifting.proofs.Bits.{back}
 use Rattle.step_sizes.specs.Steps.{stepOf}
 use Rattle.step_sizes.proofs.Reciprocal.{every-step-works}
-use Rattle.step_sizes.specs.Quantise.{restored}
+use Rattle.step_sizes.specs.Levels.{restored}
 use Rattle.bands.specs.Bands.{anyOut}
 use Rattle.bands.proofs.Range.{one-looked, all-looked}
 use Rattle.bands.proofs.plane.any_leaves_range.Statement.{statement}

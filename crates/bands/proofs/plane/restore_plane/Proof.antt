@@ -8,7 +8,7 @@ use Rattle.lifting.proofs.Bits.{back}
 use Rattle.picture.proofs.UpTo.{UpTo, up-to-none, up-to-more, up-to-mapped}
 use Rattle.step_sizes.specs.Steps.{stepOf}
 use Rattle.step_sizes.proofs.Reciprocal.{every-step-works}
-use Rattle.step_sizes.specs.Quantise.{restored}
+use Rattle.step_sizes.specs.Levels.{restored}
 use Rattle.bands.proofs.Range.{each-inside}
 use Rattle.bands.proofs.plane.restore_plane.Statement.{statement}
 use Rattle.bands.proofs.plane.restore_plane.Tie as tie

@@ -7,7 +7,7 @@ use lib.IntN.{natAbs}
 use mir.Syntax.{w32}
 use mir.ValLaws.{toZ-ofZ}
 use Rattle.lifting.proofs.Bits.{back}
-use Rattle.step_sizes.specs.Quantise.{signed, quantised}
+use Rattle.step_sizes.specs.Levels.{signed, quantised}
 use Rattle.step_sizes.proofs.Signs.{magnitude-most}
 use Rattle.step_sizes.proofs.Rounding.{level-most}
 use Rattle.step_sizes.proofs.number.quantise_number.Statement.{statement}

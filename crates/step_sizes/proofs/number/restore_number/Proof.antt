@@ -6,7 +6,7 @@ use mir.Val.{toZ}
 use mir.Syntax.{w32}
 use mir.Facts.{toZ-pos}
 use mir.ValLaws.{toZ-ofZ}
-use Rattle.step_sizes.specs.Quantise.{restored}
+use Rattle.step_sizes.specs.Levels.{restored}
 use Rattle.step_sizes.proofs.Signs.{in-range}
 use Rattle.step_sizes.proofs.number.restore_number.Statement.{statement}
 use Rattle.step_sizes.proofs.number.restore_number.Tie as tie

@@ -8,7 +8,7 @@ use mir.Syntax.{w32, w64}
 use mir.Facts.{toZ-pos}
 use mir.ValLaws.{toZ-ofZ}
 use Rattle.lifting.proofs.Bits.{widen}
-use Rattle.step_sizes.specs.Quantise.{signed}
+use Rattle.step_sizes.specs.Levels.{signed}
 use Rattle.step_sizes.proofs.Signs.{negated, negative-sign, other-sign, sign-fits}
 use Rattle.step_sizes.proofs.number.with_sign.Statement.{statement}
 use Rattle.step_sizes.proofs.number.with_sign.Tie as tie

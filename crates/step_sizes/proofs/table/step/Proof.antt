@@ -6,14 +6,14 @@ use native.Mathlib.Omega.{arith}
 use lib.Dec.{T, eqb, eqb→eq}
 use lib.ListN.{getD}
 use borrow.Author.Needs.{needs}
+use Rattle.lifting.proofs.Tests.{all, all-at}
 use Rattle.step_sizes.specs.Steps.{stepOf}
 use Rattle.step_sizes.specs.Parts.{Entry}
-use Rattle.step_sizes.proofs.Tests.{allBelow, below}
 use Rattle.step_sizes.proofs.table.step.Statement.{statement}
 use Rattle.step_sizes.proofs.table.step.Tie as tie
 
-rule : {table : List ℕ} {k value : ℕ} → Entry table k value → T (allBelow 256 (λ i. eqb (getD table i 0) (stepOf i))) → k < 256 → value ≡ stepOf k
-rule {table} {k} e t h = e .is ∙ eqb→eq (getD table k 0) (stepOf k) (below 256 (λ i. eqb (getD table i 0) (stepOf i)) t k h)
+rule : {table : List ℕ} {k value : ℕ} → Entry table k value → T (all 256 (λ i. eqb (getD table i 0) (stepOf i))) → k < 256 → value ≡ stepOf k
+rule {table} {k} e t h = e .is ∙ eqb→eq (getD table k 0) (stepOf k) (all-at 256 (λ i. eqb (getD table i 0) (stepOf i)) t k h)
 
 returns : tie.Need-returns
 unfolding stepOf
