@@ -2,8 +2,8 @@
 
 mod common;
 use common::*;
-use reference::levels;
 use reference::random::{Random, Values};
+use reference::step_sizes;
 use reference::Size;
 
 /// What `-s` is given, and the indices of DC, low-pass and high-pass that it stands for: one for all
@@ -34,21 +34,21 @@ fn lent_mut([dc, low, high]: &mut Planes) -> [&mut [i32]; 3] {
 /// The levels of these coefficients; the mode changes nothing but the header.
 fn quantised(size: Size, indices: [u32; 3], planes: &Planes) -> Planes {
     let mut levels = planes.clone();
-    levels::quantise(0, size, indices, lent(planes), lent_mut(&mut levels)).unwrap();
+    step_sizes::quantise(0, size, indices, lent(planes), lent_mut(&mut levels)).unwrap();
     levels
 }
 
 /// The coefficients of these levels.
 fn restored(size: Size, indices: [u32; 3], levels: &Planes) -> Result<Planes, u32> {
     let mut planes = levels.clone();
-    levels::restore(0, size, indices, lent(levels), lent_mut(&mut planes))?;
+    step_sizes::restore(0, size, indices, lent(levels), lent_mut(&mut planes))?;
     Ok(planes)
 }
 
 /// The lines of the three bands, up to their steps.
 fn lines(indices: [u32; 3]) -> [String; 3] {
     let [dc, low, high] =
-        indices.map(|index| format!("index {index}, step {}", levels::step(index).unwrap()));
+        indices.map(|index| format!("index {index}, step {}", step_sizes::step(index).unwrap()));
     [format!("DC         {dc}"), format!("low-pass   {low}"), format!("high-pass  {high}")]
 }
 
@@ -154,7 +154,7 @@ fn there_and_back_within_half_a_step() {
     let planes = random_planes(&mut Random::new(63), size, Values::Small);
     let back = restored(size, indices, &quantised(size, indices, &planes)).unwrap();
     for ((plane, back), index) in planes.iter().zip(&back).zip(indices) {
-        let half = levels::step(index).unwrap() / 2;
+        let half = step_sizes::step(index).unwrap() / 2;
         assert!(plane.iter().zip(back).all(|(one, other)| one.abs_diff(*other) <= half));
     }
 

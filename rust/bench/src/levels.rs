@@ -3,8 +3,8 @@
 use crate::measure::{black_box, median_nanoseconds};
 use crate::{heading, row, split, split_mut};
 use lapped::{Mode, PlanesMut, PlanesRef, Refusal, Size, Steps};
-use reference::levels;
 use reference::random::Random;
+use reference::step_sizes;
 
 /// Large, and the largest.
 const SIZES: [(u32, u32); 2] = [(64, 64), (525, 413)];
@@ -25,8 +25,9 @@ struct Call {
     plain: Plain,
 }
 
-const QUANTISE: Call = Call { name: "quantise", proved: lapped::quantise, plain: levels::quantise };
-const RESTORE: Call = Call { name: "restore", proved: lapped::restore, plain: levels::restore };
+const QUANTISE: Call =
+    Call { name: "quantise", proved: lapped::quantise, plain: step_sizes::quantise };
+const RESTORE: Call = Call { name: "restore", proved: lapped::restore, plain: step_sizes::restore };
 
 /// The planes that a call reads and those that it writes, each set in one buffer.
 struct Buffers<'a> {

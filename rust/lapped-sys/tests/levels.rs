@@ -2,7 +2,7 @@
 
 mod common;
 use common::*;
-use reference::levels::{quantise_number, restore_number, step};
+use reference::step_sizes::{quantise_number, restore_number, step};
 use std::fmt::Write;
 use std::path::Path;
 use std::process::Command;

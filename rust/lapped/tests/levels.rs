@@ -4,8 +4,8 @@ mod common;
 use common::refusals::{Operation, BAD_INDICES};
 use common::*;
 use lapped::{Mode, PlanesMut, PlanesRef, Refusal, Size, Steps};
-use reference::levels;
 use reference::random::{Random, Values};
+use reference::step_sizes;
 
 /// The planes of DC, low-pass and high-pass, of coefficients or of levels.
 type Three = [Vec<i32>; 3];
@@ -20,8 +20,8 @@ struct Call {
     reference: Reference,
 }
 
-const QUANTISE: Call = Call { library: lapped::quantise, reference: levels::quantise };
-const RESTORE: Call = Call { library: lapped::restore, reference: levels::restore };
+const QUANTISE: Call = Call { library: lapped::quantise, reference: step_sizes::quantise };
+const RESTORE: Call = Call { library: lapped::restore, reference: step_sizes::restore };
 
 impl Call {
     /// Calls the library on lent memory, and checks that it wrote all that it was to write and no more,
@@ -143,7 +143,7 @@ fn telling_levels(step: i64, random: &mut Random) -> Vec<i32> {
 
 /// Every index with its step.
 fn indices() -> impl Iterator<Item = (u8, i64)> {
-    (0..=255).map(|index| (index, levels::step(index.into()).unwrap().into()))
+    (0..=255).map(|index| (index, step_sizes::step(index.into()).unwrap().into()))
 }
 
 /// The steps begin 1, 1, 2, .. 31, and sixteen indices further on they are twice as large.
@@ -156,11 +156,11 @@ fn every_index_has_its_step() {
     for (index, step) in steps.into_iter().enumerate() {
         assert_eq!(raw::step(index as u32), step, "index {index}");
         assert_eq!(lapped::step(index as u8), step, "index {index}");
-        assert_eq!(levels::step(index as u32), Some(step), "the reference: index {index}");
+        assert_eq!(step_sizes::step(index as u32), Some(step), "the reference: index {index}");
     }
     for index in BAD_INDICES {
         assert_eq!(raw::step(index), 0, "index {index}");
-        assert_eq!(levels::step(index), None, "the reference: index {index}");
+        assert_eq!(step_sizes::step(index), None, "the reference: index {index}");
     }
 }
 
@@ -260,7 +260,7 @@ fn each_band_by_its_own_step() {
 fn different_steps(random: &mut Random) -> Steps {
     loop {
         let [dc, low, high] = [0; 3].map(|_| random.below(256) as u8);
-        let [a, b, c] = [dc, low, high].map(|index| levels::step(index.into()));
+        let [a, b, c] = [dc, low, high].map(|index| step_sizes::step(index.into()));
         if a != b && b != c && c != a {
             return Steps { dc, low, high };
         }
@@ -270,7 +270,7 @@ fn different_steps(random: &mut Random) -> Steps {
 /// Levels that can be restored by these steps, up to the largest.
 fn restorable(mut numbers: Three, steps: Steps) -> Three {
     for (plane, index) in numbers.iter_mut().zip([steps.dc, steps.low, steps.high]) {
-        let most = i64::from(i32::MAX / levels::step(index.into()).unwrap() as i32);
+        let most = i64::from(i32::MAX / step_sizes::step(index.into()).unwrap() as i32);
         plane.iter_mut().for_each(|number| *number = (i64::from(*number) % (most + 1)) as i32);
     }
     numbers
@@ -319,7 +319,7 @@ const QUANTISE_REFUSALS: Operation<6> = Operation {
     library: |a, slices, _| raw::quantise(a.mode, a.size, a.steps, slices),
     reference: |a, [dc, low, high, to_dc, to_low, to_high], _| {
         let (planes, levels) = ([&*dc, low, high], [to_dc, to_low, to_high]);
-        levels::quantise(a.mode, a.reference_size(), a.steps, planes, levels)
+        step_sizes::quantise(a.mode, a.reference_size(), a.steps, planes, levels)
     },
 };
 
@@ -329,7 +329,7 @@ const RESTORE_REFUSALS: Operation<6> = Operation {
     library: |a, slices, _| raw::restore(a.mode, a.size, a.steps, slices),
     reference: |a, [dc, low, high, to_dc, to_low, to_high], _| {
         let (levels, planes) = ([&*dc, low, high], [to_dc, to_low, to_high]);
-        levels::restore(a.mode, a.reference_size(), a.steps, levels, planes)
+        step_sizes::restore(a.mode, a.reference_size(), a.steps, levels, planes)
     },
 };
 

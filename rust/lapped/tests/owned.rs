@@ -3,8 +3,8 @@
 mod common;
 use common::*;
 use lapped::{Mode, PlaneFile, Planes, Refusal, Steps};
-use reference::levels;
 use reference::random::{Random, Values};
+use reference::step_sizes;
 
 fn random_owned(random: &mut Random, width: u32, height: u32) -> Planes {
     let shape = size(width, height);
@@ -45,7 +45,7 @@ fn results_are_those_of_the_reference() {
 /// What the reference makes of each number of the planes and its band's step.
 fn by_number(planes: &Planes, steps: Steps, number: fn(i32, u32) -> i32) -> Planes {
     let of = |plane: &[i32], index: u8| {
-        let step = levels::step(index.into()).unwrap();
+        let step = step_sizes::step(index.into()).unwrap();
         plane.iter().map(|&value| number(value, step)).collect()
     };
     Planes {
@@ -62,9 +62,9 @@ fn levels_are_those_of_the_reference() {
     let steps = Steps { dc: 3, low: 40, high: 200 };
     for mode in Mode::ALL {
         let planes = random_owned(&mut random, 3, 2);
-        let mut levels = by_number(&planes, steps, levels::quantise_number);
+        let mut levels = by_number(&planes, steps, step_sizes::quantise_number);
         assert_eq!(planes.quantised(mode, steps).as_ref(), Ok(&levels), "{mode:?}");
-        let restored = |level, step| levels::restore_number(level, step).unwrap();
+        let restored = |level, step| step_sizes::restore_number(level, step).unwrap();
         let restored = by_number(&levels, steps, restored);
         assert_eq!(levels.restored(mode, steps), Ok(restored), "{mode:?}");
 

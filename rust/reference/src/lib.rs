@@ -6,11 +6,11 @@
 //! refuses, and has then changed nothing.
 
 pub mod level;
-pub mod levels;
 pub mod operators;
 pub mod picture;
 pub mod plane_file;
 pub mod program;
 pub mod random;
+pub mod step_sizes;
 
 pub use picture::{forward, inverse, quarter_view, Size};

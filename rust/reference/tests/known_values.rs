@@ -1,10 +1,10 @@
 //! The values that 01 gives, starred and unstarred, and values worked out by hand from the rules of 02,
 //! held against the reference.
 
-use reference::levels::{quantise_number, restore_number, step};
 use reference::operators::inverse as op;
 use reference::operators::{FORWARD_REORDER, INVERSE_REORDER};
 use reference::plane_file::{read_header, save};
+use reference::step_sizes::{quantise_number, restore_number, step};
 use reference::{inverse, program, quarter_view, Size};
 
 #[test]

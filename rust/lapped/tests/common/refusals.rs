@@ -112,7 +112,7 @@ impl Arguments {
         // No level is too large for step 1, which indices 0 and 1 choose.
         self.steps[band] = self.steps[band].max(2);
         // An index above 255 has no step; it is refused before any level is looked at.
-        let step = reference::levels::step(self.steps[band]).unwrap_or(2) as i32;
+        let step = reference::step_sizes::step(self.steps[band]).unwrap_or(2) as i32;
         let levels = [i32::MAX / step + 1, i32::MIN / step - 1, i32::MAX, i32::MIN];
         let ends = [false, true].map(|last| levels.map(|level| Outside { band, last, level }));
         let outside = ends.concat().into_iter().map(Some);
