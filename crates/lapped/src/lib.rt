@@ -5,10 +5,13 @@ ghost use Rattle.picture.specs.Numbers.{settled, inverseNumber, forwardNumber, 
 ghost use Rattle.picture.specs.Transform.{inverse as samplesOf, forward as planesOf, quarter};
 ghost use Rattle.plane_file.specs.Numbers.{saveNumber};
 ghost use Rattle.plane_file.specs.Calls.{headerAnswer, loadAnswer, loaded, saved};
+ghost use Rattle.forecast.specs.Forecast.{forecastAnswer};
 ghost use Rattle.step_sizes.specs.Steps.{stepAnswer};
 ghost use Rattle.quantise.specs.Quantise.{quantisedPlanes, quantiseNumber};
 ghost use Rattle.restore.specs.Restore.{restoredPlanes, restoreNumber};
 use bands::steps::Steps;
+use forecast::Work;
+use forecast::forecast;
 use forward::forward;
 use inverse::inverse;
 use inverse::quarter_view;
@@ -65,6 +68,13 @@ pub extern "C" fn lapped_forward(
         settled r (planesOf mode size (now (samples .entry))) (planes (now (dc .entry)) (now (low .entry)) (now (high .entry))) ⌝ }
 {
     forward(mode, size, samples, dc, low, high)
+}
+
+#[no_mangle]
+pub extern "C" fn lapped_forecast(mode: u32, size: Size) -> Work
+    ensures { λ r. ⌜ r ≡ forecastAnswer mode size ⌝ }
+{
+    forecast(mode, size)
 }
 
 #[no_mangle]

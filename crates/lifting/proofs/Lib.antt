@@ -2,6 +2,7 @@ pub mod Tests
 pub mod WrapLaws
 pub mod Bits
 pub mod Compose
+pub mod OperatorUses
 pub mod Reverse
 pub mod Between
 pub mod Locality

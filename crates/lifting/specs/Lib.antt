@@ -2,3 +2,4 @@ pub mod Wrap
 pub mod Program
 pub mod Row
 pub mod Valid
+pub mod OperatorUses

@@ -9,7 +9,7 @@ use native.Mathlib.Nat.{mul-le-mul}
 use lib.Dec.{T, ltb, eqb}
 use lib.IntN.{ℤ}
 use lib.ListN.{length}
-use borrow.Author.Tests.{ltb-false, eqb-true, not-false, le-leb, lt-leb, eq-eqb, ne-eqb}
+use borrow.Author.Tests.{ltb-false, le-ltb, eqb-true, not-false, le-leb, lt-leb, eq-eqb, ne-eqb}
 use Rattle.picture.specs.declared.mode.Mode.{Mode}
 use Rattle.picture.specs.declared.size.Size.{Size}
 use Rattle.picture.specs.declared.mode.ModeAnswer.{ModeAnswer}
@@ -77,6 +77,12 @@ shaped mode size e =
     let w = within 525 (size .width .0) (passes 2 _ tt (p .1 .0)) in
     let h = within 413 (size .height .0) (passes 3 _ tt (p .1 .1 .0)) in
     record { known = known-mode mode (p .0); sized = record { wide = w .0; most-wide = w .1; tall = h .0; most-tall = h .1 } }
+
+pub shape-passes : {mode : ℕ} {size : Size} → Shape mode size → AllPass (shapeChecks mode size)
+shape-passes {mode} {size} f =
+    let z = f .sized in
+    let inside : (k most x : ℕ) → 1 ≤ x → x ≤ most → (k if outside most x) ≡ 0 = λ k most x a b. simp (le-ltb x 1 a, le-ltb most x b) in
+    (mode-known mode (f .known), (inside 2 525 _ (z .wide) (z .most-wide), (inside 3 413 _ (z .tall) (z .most-tall), tt)))
 
 -- a picture has at most 525 * 413 macroblocks
 pub few : (W H : ℕ) → W ≤ 525 → H ≤ 413 → W * H ≤ 216825

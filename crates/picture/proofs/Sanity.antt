@@ -27,7 +27,7 @@ use Rattle.picture.proofs.Table.{row-table}
 use Rattle.picture.proofs.OnePlanes.{row-inverse}
 use Rattle.picture.proofs.WholePictures.{whole-pictures}
 
-abbrev of : ℕ → ℕ → Size
+abbrev pub of : ℕ → ℕ → Size
 of W H = record { width = record { 0 = W }; height = record { 0 = H } }
 
 -- planes with these DC numbers and the rest 0

@@ -10,8 +10,8 @@ use Rattle.picture.specs.declared.size.Size.{Size}
 use Rattle.picture.specs.Sizes.{Sized, macroblocks}
 use Rattle.picture.specs.Claims.{Shape}
 use Rattle.picture.specs.Planes.{Planes, Lengths}
-use Rattle.picture.specs.Numbers.{_if_, firstOf, settled, unlike, outside, shapeChecks, planeChecks}
-use Rattle.picture.proofs.CheckLaws.{AllPass, all-pass, pass-all, passes, passing, either-false, like, shaped, mode-known, planes-fit}
+use Rattle.picture.specs.Numbers.{_if_, firstOf, settled, unlike, shapeChecks, planeChecks}
+use Rattle.picture.proofs.CheckLaws.{AllPass, all-pass, pass-all, passes, passing, either-false, like, shaped, shape-passes, planes-fit}
 use Rattle.picture.proofs.NumberLaws.{refused-first, passed-first, settled-done, settled-refused}
 use Rattle.plane_file.specs.declared.header.Header.{Header}
 use Rattle.plane_file.specs.declared.header.Words.{Words}
@@ -70,12 +70,6 @@ alike a b e = simp (eq-eqb a b e)
 
 neither : (a b : Bool) → a ≡ false → b ≡ false → a || b ≡ false
 neither a b p q = rw (p, q)
-
-shape-passes : {mode : ℕ} {size : Size} → Shape mode size → AllPass (shapeChecks mode size)
-shape-passes {mode} {size} f =
-    let z = f .sized in
-    let inside : (k most x : ℕ) → 1 ≤ x → x ≤ most → (k if outside most x) ≡ 0 = λ k most x a b. simp (le-ltb x 1 a, le-ltb most x b) in
-    (mode-known mode (f .known), (inside 2 525 _ (z .wide) (z .most-wide), (inside 3 413 _ (z .tall) (z .most-tall), tt)))
 
 pub fits-planes : (n : ℕ) (s : Planes) → Lengths n s → firstOf (planeChecks n s) ≡ 0
 fits-planes n s f = pass-all (planeChecks n s) (same 4 _ n (f .dc), (same 5 _ (15 * n) (f .low), (same 6 _ (240 * n) (f .high), tt)))

@@ -1,0 +1,45 @@
+-- A permitted mode and size pass the checks, so the answer is the work; the lengths that the inverse asks for follow from its checks, each of which has passed.
+use Prim.Native.Nat.{ℕ, _+_, _*_}
+use mathlib.Core.Path.{_≡_, refl, sym, ap, _∙_}
+use mathlib.Core.List.{List, [], _∷_, _++_}
+use native.Mathlib.Omega.{arith}
+use lib.IntN.{ℤ}
+use lib.ListN.{length}
+use Rattle.picture.specs.declared.size.Size.{Size}
+use Rattle.picture.specs.Sizes.{Sized, macroblocks}
+use Rattle.picture.specs.Modes.{modeOf}
+use Rattle.picture.specs.Planes.{Planes, Lengths}
+use Rattle.picture.specs.Numbers.{shapeChecks, planeChecks, sampleCheck, inverseNumber}
+use Rattle.picture.specs.Claims.{Shape}
+use Rattle.picture.proofs.NumberLaws.{settled-done}
+use Rattle.picture.proofs.CheckLaws.{all-pass, pass-all, passes, like, shape-passes, planes-fit}
+use Rattle.forecast.specs.declared.Work.{Work}
+use Rattle.forecast.specs.Forecast.{workBy, noWork, forecastNumber, forecastAnswer}
+use Rattle.forecast.specs.Claims.{Forecasts, ForecastClaim}
+
+answered : (mode : ℕ) (size : Size) → Shape mode size → forecastAnswer mode size ≡ workBy (modeOf mode) size
+unfolding forecastNumber
+answered mode size s = settled-done (forecastNumber mode size) _ _ (pass-all (shapeChecks mode size) (shape-passes s))
+
+-- the lengths of slices that the inverse takes
+taken : (mode : ℕ) (size : Size) (s : Planes) (samples : List ℤ) → inverseNumber mode size s samples ≡ 0
+    → Lengths (macroblocks size) s × (length samples ≡ 256 * macroblocks size)
+unfolding inverseNumber
+taken mode size s samples e =
+    let n = macroblocks size in
+    let p = all-pass (shapeChecks mode size ++ planeChecks n s ++ sampleCheck n samples) e in
+    let l = p .1 .1 .1 in
+    (planes-fit n s (pass-all (planeChecks n s) (l .0, (l .1 .0, (l .1 .1 .0, tt)))), like (length samples) (256 * n) (passes 7 _ tt (l .1 .1 .1 .0)))
+
+pub forecast-claim : ForecastClaim
+unfolding workBy
+forecast-claim mode size s =
+    let e = answered mode size s in
+    record {
+      done = ap (λ (w : Work). w .number) e;
+      cores = ap (λ (w : Work). w .cores) e;
+      square-filters = ap (λ (w : Work). w .«square_filters») e;
+      four-filters = ap (λ (w : Work). w .«four_filters») e;
+      planes = λ t v k. let l = taken mode size t v k .0 in omega (arith, ap (λ (w : Work). w .«plane_bytes») e, l .dc, l .low, l .high);
+      samples = λ t v k. omega (arith, ap (λ (w : Work). w .«sample_bytes») e, taken mode size t v k .1);
+    }

@@ -1,0 +1,16 @@
+-- What the function of one level asks and gives; no promise to a caller cites it.
+use Prim.Native.Nat.{ℕ, _≤_, _<_}
+use Rattle.forecast.specs.declared.LevelUses.{LevelUses}
+
+-- squares across and down, at most as many as level two of the largest picture has
+pub record Squares (p q : ℕ) : Type 0 where
+  pub wide : 0 < p
+  pub most-wide : p ≤ 2100
+  pub tall : 0 < q
+  pub most-tall : q ≤ 1652
+
+-- no more uses of an operator than these squares are
+pub record Few (u : LevelUses) : Type 0 where
+  pub cores : u .cores ≤ 3469200
+  pub square-filters : u .«square_filters» ≤ 3469200
+  pub four-filters : u .«four_filters» ≤ 3469200
