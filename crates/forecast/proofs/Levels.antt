@@ -3,7 +3,10 @@ use Prim.Native.Nat.{ℕ, _+_, _-_, _*_, _≤_}
 use mathlib.Core.Path.{_≡_, refl, sym, _∙_, ap}
 use mathlib.Core.Bool.{Bool, true, false, cond}
 use native.Mathlib.Omega.{arith}
-use native.Mathlib.Nat.{mul-le-mul}
+use native.Mathlib.Nat.{mul-le-mul, le-trans, lt-of-le-of-lt}
+use lib.Dec.{lit<}
+use mir.Val.{Fits}
+use mir.Syntax.{w32}
 use Rattle.lifting.specs.Program.{Program, end, Operator, Core, SquareFilter, FourFilter, _then_}
 use Rattle.lifting.specs.OperatorUses.{uses}
 use Rattle.lifting.proofs.OperatorUses.{uses-then, uses-each}
@@ -81,18 +84,15 @@ level-claim false p q = same-uses (omega (arith, level-use Core p q false)) (ome
 
 -- ---- how many they are at most
 
-pub few-squares : {p q : ℕ} → Squares p q → p * q ≤ 3469200
-few-squares s = mul-le-mul (s .most-wide) (s .most-tall)
+few : {p q a b : ℕ} → Squares p q → a ≤ p → b ≤ q → a * b ≤ 3469200
+few s h k = le-trans (mul-le-mul h k) (mul-le-mul (s .most-wide) (s .most-tall))
 
-pub few-windows : {p q : ℕ} → Squares p q → (p - 1) * (q - 1) ≤ 3469200
-few-windows {p} {q} s =
-    let across : p - 1 ≤ 2100 = omega arith in
-    let down : q - 1 ≤ 1652 = omega arith in
-    mul-le-mul across down
+pub few-fit : {p q a b : ℕ} → Squares p q → a ≤ p → b ≤ q → Fits w32 (a * b)
+few-fit s h k = record { fits = lt-of-le-of-lt (few s h k) (lit< tt) }
 
 few-figures : (filtered : Bool) (p q : ℕ) → Squares p q → Few (levelFigures filtered p q)
-few-figures true p q s = record { cores = few-squares s; square-filters = few-windows s; four-filters = omega arith }
-few-figures false p q s = record { cores = few-squares s; square-filters = omega arith; four-filters = omega arith }
+few-figures true p q s = record { cores = few s (omega arith) (omega arith); square-filters = few s (omega arith) (omega arith); four-filters = omega arith }
+few-figures false p q s = record { cores = few s (omega arith) (omega arith); square-filters = omega arith; four-filters = omega arith }
 
 -- the figures by what a test of `filtered` found
 pub found-figures : (filtered b : Bool) (p q : ℕ) → filtered ≡ b → Squares p q → (levelFigures b p q ≡ usesIn (level filtered p q)) × Few (levelFigures b p q)

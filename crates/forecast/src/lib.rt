@@ -2,7 +2,7 @@
 ghost use mathlib.Core.Path.{_≡_};
 ghost use Rattle.picture.specs.Sizes.{Sized};
 ghost use Rattle.picture.specs.Level.{level};
-ghost use Rattle.forecast.specs.Forecast.{usesIn, noWork, workBy, forecastAnswer};
+ghost use Rattle.forecast.specs.Forecast.{usesIn, workBy, forecastAnswer};
 ghost use Rattle.forecast.specs.Parts.{Squares, Few};
 use picture::checks::Checked;
 use picture::checks::check_shape;
@@ -10,7 +10,7 @@ use picture::mode::Mode;
 use picture::size::Size;
 
 // The number, and, where that is 0, how often the inverse uses each operator of a level, and the bytes of the planes and of the samples.
-// All fit 32 bits: a picture has at most 216,825 macroblocks, with 17 squares and 1024 bytes each, which is 222,028,800 bytes.
+// All fit 32 bits: for each of at most 216,825 macroblocks there are 1024 bytes, 222,028,800 in all, and at most 24 uses of an operator.
 #[repr(C)]
 pub struct Work {
     pub number: u32,
@@ -48,20 +48,6 @@ fn level_uses(filtered: bool, p: u32, q: u32) -> LevelUses
     }
 }
 
-// What is answered with a number that is not 0: every figure is zero.
-fn refused(number: u32) -> Work
-    ensures { λ r. ⌜ r ≡ noWork number ⌝ }
-{
-    Work {
-        number,
-        cores: 0,
-        square_filters: 0,
-        four_filters: 0,
-        plane_bytes: 0,
-        sample_bytes: 0,
-    }
-}
-
 // Both levels together, and the bytes.
 fn work_of(mode: Mode, size: Size) -> Work
     requires { ⌜ Sized size ⌝ }
@@ -81,12 +67,19 @@ fn work_of(mode: Mode, size: Size) -> Work
     }
 }
 
-// The work of a picture, or the number of the first check that fails.
+// The work of a picture, or the number of the first check that fails with every figure zero.
 pub fn forecast(mode: u32, size: Size) -> Work
     ensures { λ r. ⌜ r ≡ forecastAnswer mode size ⌝ }
 {
     match check_shape(mode, size) {
-        Checked::Refused(number) => refused(number),
+        Checked::Refused(number) => Work {
+            number,
+            cores: 0,
+            square_filters: 0,
+            four_filters: 0,
+            plane_bytes: 0,
+            sample_bytes: 0,
+        },
         Checked::Ready(known) => work_of(known, size),
     }
 }

@@ -15,12 +15,12 @@ use Rattle.forecast.proofs.forecast.Tie as tie
 returns : tie.Need-returns
 unfolding forecastNumber
 returns c =
-    let k = c .before .before in
+    let k = c .before in
     let n = k .before .before in
     let a = n .before .args in
     let work = workBy (modeOf (a .mode)) (a .size) in
     let (first, nothing) = refused-call (a .mode) (a .size) [] work (noWork (k .number .given .0 .0)) (sym (k .number .given .1) ∙ n .check-shape .ensures) in
-    c .refused .ensures ∙ nothing ∙ ap (λ (j : ℕ). settled j work (noWork j)) first
+    nothing ∙ ap (λ (j : ℕ). settled j work (noWork j)) first
 
 work-of-requires : tie.Need-work-of-requires
 work-of-requires c κs =
@@ -40,4 +40,4 @@ returns-2 c =
     c .work-of .ensures ∙ ap (λ (m : Mode). workBy m (a .size)) mode ∙ sym (settled-done number _ _ done)
 
 pub forecast-spec : {M : Type 1} → statement M
-forecast-spec = tie.close (tie.spec (λ c κs. search needs) (λ c. search needs) (λ c κs. search needs) (λ c. search needs) work-of-requires returns returns-2)
+forecast-spec = tie.close (tie.spec (λ c κs. search needs) (λ c. search needs) (λ c. search needs) work-of-requires returns returns-2)

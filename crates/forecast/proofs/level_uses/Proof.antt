@@ -2,7 +2,7 @@
 use mathlib.Core.Bool.{true, false}
 use native.Mathlib.Omega.{arith}
 use borrow.Author.Needs.{needs}
-use Rattle.forecast.proofs.Levels.{few-squares, few-windows, found-figures}
+use Rattle.forecast.proofs.Levels.{few-fit, found-figures}
 use Rattle.forecast.proofs.level_uses.Statement.{statement}
 use Rattle.forecast.proofs.level_uses.Tie as tie
 
@@ -15,5 +15,5 @@ returns-2 c = let a = c .before .args in found-figures (a .filtered) false (a .p
 pub level-uses-spec : {M : Type 1} → statement M
 level-uses-spec =
     tie.close
-    (tie.spec (λ c. record { fits = omega (arith, few-squares (c .pre)) }) (λ c. search needs) (λ c. search needs) (λ c. record { fits = omega (arith, few-windows (c .before .pre)) })
+    (tie.spec (λ c. few-fit (c .pre) (omega arith) (omega arith)) (λ c. search needs) (λ c. search needs) (λ c. few-fit (c .before .pre) (omega arith) (omega arith))
     (λ c. search needs) (λ c. search needs) (λ c. search needs) (λ c. search needs) (λ c. search needs) returns returns-2)
