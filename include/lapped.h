@@ -85,6 +85,18 @@ typedef struct {
     lapped_size size;
 } lapped_header;
 
+/* How much work the inverse of a picture is: the answer and, if it is 0, how often each operator
+ * runs, at both levels together, and the bytes of the planes and of the samples; else zeros. All
+ * fit 32 bits: there are at most 216825 macroblocks, each with 1024 bytes of planes, 1024 of
+ * samples, and at most 24 uses of an operator. */
+typedef struct {
+    uint32_t number;
+    uint32_t cores;          /* core transforms of 4 x 4 numbers */
+    uint32_t square_filters; /* overlap filters of 4 x 4 numbers */
+    uint32_t four_filters;   /* overlap filters of four numbers, along the edges */
+    uint32_t plane_bytes, sample_bytes;
+} lapped_work;
+
 /* From coefficient planes to samples. Checks 1, 2, 3, 4, 5, 6, 7. */
 uint32_t lapped_inverse(uint32_t mode, lapped_size size,
                         const int32_t *dc, size_t dc_len,
@@ -105,6 +117,9 @@ uint32_t lapped_forward(uint32_t mode, lapped_size size,
                         int32_t *dc, size_t dc_len,
                         int32_t *low, size_t low_len,
                         int32_t *high, size_t high_len);
+
+/* The work of a picture, from its mode and size alone. Checks 1, 2, 3. */
+lapped_work lapped_forecast(uint32_t mode, lapped_size size);
 
 /* A level says how many steps a coefficient is, to the nearest: a smaller number, for a smaller
  * archive. Levels lie in planes as their coefficients do. Each band has one step, chosen by its

@@ -2,6 +2,7 @@
 
 mod diff;
 mod export;
+mod forecast;
 mod import;
 mod info;
 mod quantise;
@@ -38,6 +39,7 @@ macro_rules! commands {
 
 commands! {
     Info in info,
+    Forecast in forecast,
     Export in export,
     Import in import,
     Quantise in quantise,

@@ -11,6 +11,7 @@ mod plane_file;
 mod png_file;
 mod progress;
 mod range;
+mod shape;
 mod steps;
 mod stopwatch;
 mod temporary;

@@ -3,7 +3,7 @@
 use crate::failure::Failure;
 use crate::progress::Progress;
 use crate::{input, output};
-use lapped::{Mode, PlaneFile, Planes, Refusal};
+use lapped::{Header, Mode, PlaneFile, Planes, Refusal};
 use std::io::{self, Read};
 use std::path::Path;
 
@@ -13,8 +13,17 @@ const TOTAL: std::ops::Range<usize> = 24..28;
 
 /// The planes of a file. The file's bytes are gone when this returns.
 pub fn read(path: &Path) -> Result<PlaneFile, Failure> {
+    from_bytes(path, &bytes_of(path)?)
+}
+
+/// The mode and the size of a file, which must be whole.
+pub fn header(path: &Path) -> Result<Header, Failure> {
+    lapped::read_header(&bytes_of(path)?).map_err(|refusal| Failure::refused(path, refusal))
+}
+
+fn bytes_of(path: &Path) -> Result<Vec<u8>, Failure> {
     let bytes = input::open(path).and_then(|mut file| bytes(&mut file));
-    from_bytes(path, &bytes.map_err(|error| Failure::system(path, error))?)
+    bytes.map_err(|error| Failure::system(path, error))
 }
 
 /// The planes of a file from its bytes.

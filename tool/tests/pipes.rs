@@ -38,7 +38,7 @@ fn each_command_reads_and_writes_pipes() {
         fs::remove_file(out).unwrap();
     }
 
-    for command in ["info", "roundtrip"] {
+    for command in ["info", "forecast", "roundtrip"] {
         let (piped, named) =
             (lapped_reading(&[command, "-"], &plane_file), lapped(&[command, &path]));
         piped.assert_done(command);

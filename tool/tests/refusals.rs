@@ -7,9 +7,10 @@ use png::{BitDepth, ColorType};
 use reference::random::Random;
 
 /// What each command does with one plane file, in which there is a fault.
-fn commands<'a>(faulty: &'a str, sound: &'a str, out: &'a str) -> [Vec<&'a str>; 7] {
+fn commands<'a>(faulty: &'a str, sound: &'a str, out: &'a str) -> [Vec<&'a str>; 8] {
     [
         vec!["info", faulty],
+        vec!["forecast", faulty],
         vec!["export", faulty, "-o", out],
         vec!["quantise", faulty, "-s", "40", "-o", out],
         vec!["restore", faulty, "-s", "40", "-o", out],
@@ -87,7 +88,7 @@ fn input_without_end() {
     let folder = Folder::new("without_end");
     let file = folder.write("sound", &some_file(5));
     let line = "cat \"$1\" /dev/zero | timeout 60 \"$lapped\" \"$2\" -";
-    for command in ["info", "roundtrip"] {
+    for command in ["info", "forecast", "roundtrip"] {
         let ran = shell(line, &[&file, command]);
         assert_eq!(
             ran.err,

@@ -11,10 +11,18 @@ fn wrong_usage() {
     let folder = Folder::new("wrong_usage");
     let (file, out) = (folder.write("planes", &some_file(50)), folder.path("out.png"));
     let other = folder.path("out.tiff");
-    let calls: [&[&str]; 27] = [
+    let calls: [&[&str]; 35] = [
         &[],
         &["quantize"],
         &["info"],
+        &["forecast"],
+        &["forecast", &file, &file],
+        &["forecast", &file, "--size", "2x1", "-m", "1"],
+        &["forecast", &file, "-m", "1"],
+        &["forecast", "--size", "2x1"],
+        &["forecast", "-m", "1"],
+        &["forecast", "--size", "2x1", "-m", "3"],
+        &["forecast", "--size", "526x1", "-m", "1"],
         &["roundtrip"],
         &["export", &file],
         &["export", "-o", &out],
@@ -75,7 +83,8 @@ fn examples_of_the_help_work() {
     let help = lapped(&["--help"]);
     help.assert_done("--help");
     let all = examples(help.text());
-    let commands = ["info", "export", "import", "quantise", "restore", "roundtrip", "diff"];
+    let commands =
+        ["info", "forecast", "export", "import", "quantise", "restore", "roundtrip", "diff"];
     assert_eq!(all.len(), commands.len(), "{all:?}");
     for (example, command) in all.iter().zip(commands) {
         assert!(example.starts_with(&format!("lapped {command} ")), "{example}");

@@ -49,6 +49,19 @@ pub struct lapped_header {
     pub size: lapped_size,
 }
 
+/// How much work the inverse of a picture is: the answer and, if it is 0, how often each operator
+/// runs, and the bytes of the planes and of the samples; else zeros.
+#[repr(C)]
+#[derive(Clone, Copy, Debug, PartialEq, Eq)]
+pub struct lapped_work {
+    pub number: u32,
+    pub cores: u32,
+    pub square_filters: u32,
+    pub four_filters: u32,
+    pub plane_bytes: u32,
+    pub sample_bytes: u32,
+}
+
 extern "C" {
     /// From coefficient planes to samples. Checks 1, 2, 3, 4, 5, 6, 7.
     pub fn lapped_inverse(
@@ -89,6 +102,9 @@ extern "C" {
         high: *mut i32,
         high_len: usize,
     ) -> u32;
+
+    /// The work of a picture, from its mode and size alone. Checks 1, 2, 3.
+    pub fn lapped_forecast(mode: u32, size: lapped_size) -> lapped_work;
 
     /// The step of an index; 0 for an index above 255.
     pub fn lapped_step(index: u32) -> u32;

@@ -5,7 +5,8 @@
 //! the picture at a quarter of its width and height. A [`PlaneFile`] keeps planes as bytes. Samples
 //! and coefficients are `i32`, any values; sums wrap. For a smaller archive, [`quantise`] takes
 //! coefficients to levels, smaller numbers that [`restore`] takes back to nearly the same coefficients;
-//! the step of each band, chosen by [`Steps`], says how nearly.
+//! the step of each band, chosen by [`Steps`], says how nearly. [`forecast`] says beforehand how much
+//! work a picture is.
 //!
 //! The calls are functions of `liblapped.a`, which is proved to meet its definitions for every input.
 //! This crate adds the types: a call that gets a [`Mode`] and a [`Size`] can only be refused for the
@@ -32,6 +33,7 @@
 
 #[macro_use]
 mod call;
+mod forecast;
 mod levels;
 mod mode;
 mod plane_file;
@@ -41,6 +43,7 @@ mod size;
 mod steps;
 mod transform;
 
+pub use forecast::{forecast, Work};
 pub use levels::{quantise, restore};
 pub use mode::Mode;
 pub use plane_file::{load, read_header, save, Header, PlaneFile};

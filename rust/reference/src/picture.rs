@@ -68,11 +68,11 @@ pub(crate) fn check_planes(n: usize, dc: &[i32], low: &[i32], high: &[i32]) -> R
     check_length(high.len(), 240 * n, 6)
 }
 
-fn filters_level_one(mode: u32) -> bool {
+pub(crate) fn filters_level_one(mode: u32) -> bool {
     mode == 2
 }
 
-fn filters_level_two(mode: u32) -> bool {
+pub(crate) fn filters_level_two(mode: u32) -> bool {
     mode >= 1
 }
 

@@ -2,8 +2,8 @@
 
 use crate::failure::{tell, Failure, Outcome};
 use crate::grey::Picture;
-use crate::plane_file;
 use crate::progress::Progress;
+use crate::{plane_file, shape};
 use lapped::{Mode, PlaneFile, Planes, Refusal, Size};
 use std::path::{Path, PathBuf};
 
@@ -18,16 +18,11 @@ pub struct Args {
     #[arg(value_name = "IN")]
     input: PathBuf,
     /// 0 filters no level, 1 the level of the samples, 2 both
-    #[arg(short, long, value_parser = parse_mode)]
+    #[arg(short, long, value_parser = shape::parse_mode)]
     mode: Mode,
     /// The plane file; `-` is standard output
     #[arg(short, long, value_name = "FILE")]
     output: PathBuf,
-}
-
-fn parse_mode(text: &str) -> Result<Mode, String> {
-    let number: u32 = text.parse().map_err(|_| "the mode is 0, 1 or 2".to_string())?;
-    Mode::try_from(number).map_err(|refusal| refusal.to_string())
 }
 
 pub fn run(args: &Args, progress: &Progress) -> Result<Outcome, Failure> {

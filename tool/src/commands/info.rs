@@ -2,8 +2,8 @@
 
 use crate::failure::{Failure, Outcome};
 use crate::progress::Progress;
-use crate::{input, output, plane_file};
-use lapped::{Mode, PlaneFile};
+use crate::{input, output, plane_file, shape};
+use lapped::PlaneFile;
 use std::path::{Path, PathBuf};
 
 pub const EXAMPLE: &str = "lapped info examples/disc.planes";
@@ -37,16 +37,10 @@ fn report(path: &Path, file: &PlaneFile) -> String {
     let planes = &file.planes;
     let size = planes.size;
     let mut text = format!(
-        "{}\n  mode       {} ({})\n  \
-         size       {} × {} macroblocks, {} × {} samples\n  bytes      {}\n",
+        "{}\n{}  bytes      {}\n",
         path.display(),
-        file.mode.number(),
-        in_words(file.mode),
-        size.width(),
-        size.height(),
-        size.samples_across(),
-        size.samples_down(),
-        size.file_bytes(),
+        shape::lines(file.mode, size),
+        size.file_bytes()
     );
     for (band, plane) in
         [("DC", &planes.dc), ("low-pass", &planes.low), ("high-pass", &planes.high)]
@@ -55,14 +49,6 @@ fn report(path: &Path, file: &PlaneFile) -> String {
         text += &format!("  {band:<9}  {smallest} to {largest}\n");
     }
     text
-}
-
-fn in_words(mode: Mode) -> &'static str {
-    match mode {
-        Mode::Unfiltered => "no level filtered",
-        Mode::SampleLevel => "the level of the samples filtered",
-        Mode::BothLevels => "both levels filtered",
-    }
 }
 
 /// The smallest and the largest number of a plane; a plane is never empty.

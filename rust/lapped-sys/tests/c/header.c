@@ -16,6 +16,12 @@ static void print_layout(void) {
     printf("header %u: %u %u %u\n", (unsigned)sizeof(lapped_header),
            (unsigned)offsetof(lapped_header, number), (unsigned)offsetof(lapped_header, mode),
            (unsigned)offsetof(lapped_header, size));
+    printf("work %u: %u %u %u %u %u %u\n", (unsigned)sizeof(lapped_work),
+           (unsigned)offsetof(lapped_work, number), (unsigned)offsetof(lapped_work, cores),
+           (unsigned)offsetof(lapped_work, square_filters),
+           (unsigned)offsetof(lapped_work, four_filters),
+           (unsigned)offsetof(lapped_work, plane_bytes),
+           (unsigned)offsetof(lapped_work, sample_bytes));
 }
 
 static void print_modes(void) {

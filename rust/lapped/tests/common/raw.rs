@@ -1,7 +1,7 @@
 //! The functions of the C interface on slices, with any mode, size, steps and lengths, and their
 //! numbers.
 
-use lapped_sys::{lapped_header, lapped_size, lapped_steps};
+use lapped_sys::{lapped_header, lapped_size, lapped_steps, lapped_work};
 
 /// Calls a function with plain arguments, then slices that it reads, then slices that it writes.
 macro_rules! call {
@@ -30,6 +30,10 @@ pub fn quarter(mode: u32, size: lapped_size, slices: [&mut [i32]; 3]) -> u32 {
 pub fn forward(mode: u32, size: lapped_size, slices: [&mut [i32]; 4]) -> u32 {
     let [samples, dc, low, high] = slices;
     call!(lapped_forward(mode, size); samples; dc, low, high)
+}
+
+pub fn forecast(mode: u32, size: lapped_size) -> lapped_work {
+    call!(lapped_forecast(mode, size);;)
 }
 
 pub fn step(index: u32) -> u32 {
