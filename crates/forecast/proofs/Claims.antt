@@ -1,12 +1,12 @@
 -- A permitted mode and size pass the checks, so the answer is the work; the lengths that the inverse asks for follow from its checks, each of which has passed.
-use Prim.Native.Nat.{ℕ, _+_, _*_}
-use mathlib.Core.Path.{_≡_, refl, sym, ap, _∙_}
-use mathlib.Core.List.{List, [], _∷_, _++_}
+use Prim.Native.Nat.{ℕ, _*_}
+use mathlib.Core.Path.{_≡_, ap}
+use mathlib.Core.List.{List, _++_}
 use native.Mathlib.Omega.{arith}
 use lib.IntN.{ℤ}
 use lib.ListN.{length}
 use Rattle.picture.specs.declared.size.Size.{Size}
-use Rattle.picture.specs.Sizes.{Sized, macroblocks}
+use Rattle.picture.specs.Sizes.{macroblocks}
 use Rattle.picture.specs.Modes.{modeOf}
 use Rattle.picture.specs.Planes.{Planes, Lengths}
 use Rattle.picture.specs.Numbers.{shapeChecks, planeChecks, sampleCheck, inverseNumber}
@@ -14,8 +14,8 @@ use Rattle.picture.specs.Claims.{Shape}
 use Rattle.picture.proofs.NumberLaws.{settled-done}
 use Rattle.picture.proofs.CheckLaws.{all-pass, pass-all, passes, like, shape-passes, planes-fit}
 use Rattle.forecast.specs.declared.Work.{Work}
-use Rattle.forecast.specs.Forecast.{workBy, noWork, forecastNumber, forecastAnswer}
-use Rattle.forecast.specs.Claims.{Forecasts, ForecastClaim}
+use Rattle.forecast.specs.Forecast.{workBy, forecastNumber, forecastAnswer}
+use Rattle.forecast.specs.Claims.{ForecastClaim}
 
 answered : (mode : ℕ) (size : Size) → Shape mode size → forecastAnswer mode size ≡ workBy (modeOf mode) size
 unfolding forecastNumber

@@ -12,9 +12,8 @@ use Rattle.lifting.specs.OperatorUses.{uses}
 use Rattle.lifting.proofs.OperatorUses.{uses-then, uses-each}
 use Rattle.figures.specs.Figures.{core, coreStages, hadamard, odd, oddOdd, rotation, scale, postHadamard, postOddOdd, fourFilter, squareFilter}
 use Rattle.forecast.specs.declared.LevelUses.{LevelUses}
-use Rattle.forecast.specs.Forecast.{usesIn}
-use Rattle.forecast.specs.Claims.{levelFigures, LevelClaim}
-use Rattle.forecast.specs.Parts.{Squares, Few}
+use Rattle.forecast.specs.Claims.{levelCounts, LevelClaim}
+use Rattle.forecast.specs.Parts.{usesIn, Squares, Few}
 use Rattle.picture.specs.Level.{coreAt, squareFilterAt, fourFilterAt, cores, squareFilters, rowFilters, columnFilters, alongEdges, filters, level}
 
 -- ---- any operator
@@ -90,10 +89,10 @@ few s h k = le-trans (mul-le-mul h k) (mul-le-mul (s .most-wide) (s .most-tall))
 pub few-fit : {p q a b : ℕ} → Squares p q → a ≤ p → b ≤ q → Fits w32 (a * b)
 few-fit s h k = record { fits = lt-of-le-of-lt (few s h k) (lit< tt) }
 
-few-figures : (filtered : Bool) (p q : ℕ) → Squares p q → Few (levelFigures filtered p q)
-few-figures true p q s = record { cores = few s (omega arith) (omega arith); square-filters = few s (omega arith) (omega arith); four-filters = omega arith }
-few-figures false p q s = record { cores = few s (omega arith) (omega arith); square-filters = omega arith; four-filters = omega arith }
+few-counts : (filtered : Bool) (p q : ℕ) → Squares p q → Few (levelCounts filtered p q)
+few-counts true p q s = record { cores = few s (omega arith) (omega arith); square-filters = few s (omega arith) (omega arith); four-filters = omega arith }
+few-counts false p q s = record { cores = few s (omega arith) (omega arith); square-filters = omega arith; four-filters = omega arith }
 
--- the figures by what a test of `filtered` found
-pub found-figures : (filtered b : Bool) (p q : ℕ) → filtered ≡ b → Squares p q → (levelFigures b p q ≡ usesIn (level filtered p q)) × Few (levelFigures b p q)
-found-figures filtered b p q e s = (sym (level-claim filtered p q ∙ ap (λ (t : Bool). levelFigures t p q) e), few-figures b p q s)
+-- the counts by what a test of `filtered` found
+pub found-counts : (filtered b : Bool) (p q : ℕ) → filtered ≡ b → Squares p q → (levelCounts b p q ≡ usesIn (level filtered p q)) × Few (levelCounts b p q)
+found-counts filtered b p q e s = (sym (level-claim filtered p q ∙ ap (λ (t : Bool). levelCounts t p q) e), few-counts b p q s)

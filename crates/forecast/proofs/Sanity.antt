@@ -1,5 +1,5 @@
 -- The definitions at small pictures, computed: whole forecasts, operators that are used inside others, and slices that the inverse takes.
-use Prim.Native.Nat.{ℕ, _*_}
+use Prim.Native.Nat.{ℕ}
 use mathlib.Core.Path.{_≡_, refl}
 use mathlib.Core.Bool.{true}
 use mathlib.Core.List.{List, [], _∷_, map}

@@ -1,4 +1,4 @@
--- What holds of every forecast: its counts are the uses in the defined inverse, its bytes are those that the inverse is lent, and a level's uses are the figures of 02, b.
+-- What holds of every forecast: a level's uses are the counts of 02, b; a forecast's counts are the uses in the defined inverse, and its bytes are those that the inverse is lent.
 use Prim.Native.Nat.{ℕ, _+_, _-_, _*_}
 use mathlib.Core.Path.{_≡_}
 use mathlib.Core.Bool.{Bool, cond}
@@ -15,11 +15,12 @@ use Rattle.picture.specs.Transform.{levelOne, levelTwo}
 use Rattle.picture.specs.Numbers.{inverseNumber}
 use Rattle.picture.specs.Claims.{Shape}
 use Rattle.forecast.specs.declared.LevelUses.{LevelUses}
-use Rattle.forecast.specs.Forecast.{usesIn, forecastAnswer}
+use Rattle.forecast.specs.Forecast.{forecastAnswer}
+use Rattle.forecast.specs.Parts.{usesIn}
 
 -- a level of p squares across and q down has p q cores and, when filtered, (p - 1)(q - 1) square filters and 4 (p - 1) + 4 (q - 1) four-number filters
-abbrev pub levelFigures : Bool → ℕ → ℕ → LevelUses
-levelFigures filtered p q =
+abbrev pub levelCounts : Bool → ℕ → ℕ → LevelUses
+levelCounts filtered p q =
     record {
       cores = p * q;
       «square_filters» = cond filtered ((p - 1) * (q - 1)) 0;
@@ -27,7 +28,7 @@ levelFigures filtered p q =
     }
 
 abbrev pub LevelClaim : Type 0
-LevelClaim = (filtered : Bool) (p q : ℕ) → usesIn (level filtered p q) ≡ levelFigures filtered p q
+LevelClaim = (filtered : Bool) (p q : ℕ) → usesIn (level filtered p q) ≡ levelCounts filtered p q
 
 -- the counts are the uses in the two level programs of the inverse; the bytes are four for each number of the slices that the inverse takes
 pub record Forecasts (mode : ℕ) (size : Size) : Type 0 where

@@ -1,6 +1,6 @@
 -- The forecast of a picture: how often its defined inverse uses each operator of a level, and its bytes (02, b).
 use Prim.Native.Nat.{ℕ, _+_, _*_}
-use Rattle.lifting.specs.Program.{Program, Operator, Core, SquareFilter, FourFilter}
+use Rattle.lifting.specs.Program.{Operator, Core, SquareFilter, FourFilter}
 use Rattle.lifting.specs.OperatorUses.{uses}
 use Rattle.picture.specs.declared.mode.Mode.{Mode}
 use Rattle.picture.specs.declared.size.Size.{Size}
@@ -8,12 +8,7 @@ use Rattle.picture.specs.Sizes.{macroblocks}
 use Rattle.picture.specs.Modes.{modeOf}
 use Rattle.picture.specs.Transform.{levelOne, levelTwo}
 use Rattle.picture.specs.Numbers.{firstOf, settled, shapeChecks}
-use Rattle.forecast.specs.declared.LevelUses.{LevelUses}
 use Rattle.forecast.specs.declared.Work.{Work}
-
--- the uses of the three operators of a level in a program
-abbrev pub usesIn : Program → LevelUses
-usesIn p = record { cores = uses Core p; «square_filters» = uses SquareFilter p; «four_filters» = uses FourFilter p }
 
 -- the uses of an operator in the defined inverse: those in level one and those in level two
 abbrev pub inverseUses : Operator → Mode → Size → ℕ

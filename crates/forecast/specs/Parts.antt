@@ -1,6 +1,11 @@
--- What the function of one level asks and gives; no promise to a caller cites it.
+-- The uses of a level's operators, as the function of one level gives them, and what it asks. No promise to a caller cites this.
 use Prim.Native.Nat.{ℕ, _≤_, _<_}
+use Rattle.lifting.specs.Program.{Program, Core, SquareFilter, FourFilter}
+use Rattle.lifting.specs.OperatorUses.{uses}
 use Rattle.forecast.specs.declared.LevelUses.{LevelUses}
+
+abbrev pub usesIn : Program → LevelUses
+usesIn p = record { cores = uses Core p; «square_filters» = uses SquareFilter p; «four_filters» = uses FourFilter p }
 
 -- squares across and down, at most as many as level two of the largest picture has
 pub record Squares (p q : ℕ) : Type 0 where

@@ -2,8 +2,8 @@
 ghost use mathlib.Core.Path.{_≡_};
 ghost use Rattle.picture.specs.Sizes.{Sized};
 ghost use Rattle.picture.specs.Level.{level};
-ghost use Rattle.forecast.specs.Forecast.{usesIn, workBy, forecastAnswer};
-ghost use Rattle.forecast.specs.Parts.{Squares, Few};
+ghost use Rattle.forecast.specs.Forecast.{workBy, forecastAnswer};
+ghost use Rattle.forecast.specs.Parts.{usesIn, Squares, Few};
 use picture::checks::Checked;
 use picture::checks::check_shape;
 use picture::mode::Mode;

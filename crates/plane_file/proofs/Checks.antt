@@ -11,7 +11,7 @@ use Rattle.picture.specs.Sizes.{Sized, macroblocks}
 use Rattle.picture.specs.Claims.{Shape}
 use Rattle.picture.specs.Planes.{Planes, Lengths}
 use Rattle.picture.specs.Numbers.{_if_, firstOf, settled, unlike, shapeChecks, planeChecks}
-use Rattle.picture.proofs.CheckLaws.{AllPass, all-pass, pass-all, passes, passing, either-false, like, shaped, shape-passes, planes-fit}
+use Rattle.picture.proofs.CheckLaws.{all-pass, pass-all, passes, passing, either-false, like, shaped, shape-passes, planes-fit}
 use Rattle.picture.proofs.NumberLaws.{refused-first, passed-first, settled-done, settled-refused}
 use Rattle.plane_file.specs.declared.header.Header.{Header}
 use Rattle.plane_file.specs.declared.header.Words.{Words}

@@ -1,6 +1,6 @@
 -- The checks of mode and size refuse, or pass and give the mode.
 use Prim.Native.Nat.{ℕ}
-use mathlib.Core.Path.{_≡_, sym, ap, _∙_}
+use mathlib.Core.Path.{sym, ap, _∙_}
 use mathlib.Core.List.{[]}
 use borrow.Author.Needs.{needs}
 use Rattle.picture.specs.declared.mode.Mode.{Mode}

@@ -9,7 +9,8 @@ use Rattle.picture.specs.Level.{level}
 use Rattle.picture.specs.Transform.{levelOne}
 use Rattle.forecast.specs.declared.LevelUses.{LevelUses}
 use Rattle.forecast.specs.declared.Work.{Work}
-use Rattle.forecast.specs.Forecast.{usesIn, workBy}
+use Rattle.forecast.specs.Forecast.{workBy}
+use Rattle.forecast.specs.Parts.{usesIn}
 use Rattle.forecast.proofs.work_of.Statement.{statement}
 use Rattle.forecast.proofs.work_of.Tie as tie
 
