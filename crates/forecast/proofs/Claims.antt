@@ -21,11 +21,11 @@ answered : (mode : ℕ) (size : Size) → Shape mode size → forecastAnswer mod
 unfolding forecastNumber
 answered mode size s = settled-done (forecastNumber mode size) _ _ (pass-all (shapeChecks mode size) (shape-passes s))
 
--- the lengths of slices that the inverse takes
-taken : (mode : ℕ) (size : Size) (s : Planes) (samples : List ℤ) → inverseNumber mode size s samples ≡ 0
+-- the lengths that the inverse asks for
+asked-lengths : (mode : ℕ) (size : Size) (s : Planes) (samples : List ℤ) → inverseNumber mode size s samples ≡ 0
     → Lengths (macroblocks size) s × (length samples ≡ 256 * macroblocks size)
 unfolding inverseNumber
-taken mode size s samples e =
+asked-lengths mode size s samples e =
     let n = macroblocks size in
     let p = all-pass (shapeChecks mode size ++ planeChecks n s ++ sampleCheck n samples) e in
     let l = p .1 .1 .1 in
@@ -40,6 +40,6 @@ forecast-claim mode size s =
       cores = ap (λ (w : Work). w .cores) e;
       square-filters = ap (λ (w : Work). w .«square_filters») e;
       four-filters = ap (λ (w : Work). w .«four_filters») e;
-      planes = λ t v k. let l = taken mode size t v k .0 in omega (arith, ap (λ (w : Work). w .«plane_bytes») e, l .dc, l .low, l .high);
-      samples = λ t v k. omega (arith, ap (λ (w : Work). w .«sample_bytes») e, taken mode size t v k .1);
+      planes = λ t v k. let l = asked-lengths mode size t v k .0 in omega (arith, ap (λ (w : Work). w .«plane_bytes») e, l .dc, l .low, l .high);
+      samples = λ t v k. omega (arith, ap (λ (w : Work). w .«sample_bytes») e, asked-lengths mode size t v k .1);
     }
