@@ -18,6 +18,7 @@ inverseUses o mode size = uses o (levelOne mode size) + uses o (levelTwo mode si
 abbrev pub bytes : Size → ℕ
 bytes size = 1024 * macroblocks size
 
+-- done: how often the inverse uses each operator of a level, and the bytes
 unfoldable pub workBy : Mode → Size → Work
 workBy mode size =
     record {

@@ -22,10 +22,10 @@ pub struct Work {
 }
 
 // How often a level uses each of its operators.
-pub struct LevelUses {
-    pub cores: u32,
-    pub square_filters: u32,
-    pub four_filters: u32,
+struct LevelUses {
+    cores: u32,
+    square_filters: u32,
+    four_filters: u32,
 }
 
 // A level of p squares across and q down; a square is a macroblock at level one and a block at level two.
