@@ -8,11 +8,12 @@ use lapped_sys::lapped_work;
 /// The operators run on numbers of both levels of the transform, and each count is of both together.
 #[derive(Clone, Copy, Debug, PartialEq, Eq, Hash)]
 pub struct Work {
-    /// How many core transforms of 4 × 4 numbers there are.
+    /// How many core transforms there are, one for each square of 4 × 4 numbers.
     pub cores: u32,
-    /// How many overlap filters of 4 × 4 numbers there are, one wherever four blocks meet.
+    /// How many overlap filters of 4 × 4 numbers there are: where a level is filtered, one wherever
+    /// four of its squares meet.
     pub square_filters: u32,
-    /// How many overlap filters of four numbers there are, along the edges of the picture.
+    /// How many overlap filters of four numbers there are, along the edges of a filtered level.
     pub four_filters: u32,
     /// How many bytes the three planes have: four for each coefficient.
     pub plane_bytes: u32,
