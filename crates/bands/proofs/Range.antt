@@ -1,6 +1,6 @@
 -- Numbers outside the range: found by a walk from the front, one number at a time; and where none is found, each number is inside. By induction on the list.
 use Prim.Native.Nat.{ℕ, zero, suc, _+_, _≤_, _<_}
-use mathlib.Core.Path.{_≡_, sym, ap, _∙_}
+use mathlib.Core.Path.{_≡_, refl, sym, ap, _∙_}
 use mathlib.Core.Bool.{Bool, false, _||_, or-false, or-assoc}
 use mathlib.Core.List.{List, [], _∷_, map}
 use native.Mathlib.Omega.{arith}
@@ -10,7 +10,8 @@ use lib.ListN.{length, take}
 use lib.Seq.{take-all}
 use Rattle.lifting.specs.Program.{at}
 use Rattle.picture.proofs.CheckLaws.{either-false}
-use Rattle.step_sizes.specs.Levels.{outOfRange}
+use Rattle.step_sizes.specs.Levels.{restored, outOfRange}
+use Rattle.step_sizes.specs.Parts.{restoredOrZero}
 use Rattle.bands.specs.Bands.{anyOut}
 
 -- one number more is looked at
@@ -34,3 +35,10 @@ pub each-inside : (f : ℤ → ℤ) (levels : List ℤ) (i : ℕ) → i < length
 each-inside f [] i h e = absurd (omega arith)
 each-inside f (x ∷ levels) zero h e = either-false (outOfRange (f x)) (anyOut (map f levels)) e .0
 each-inside f (x ∷ levels) (suc i) h e = each-inside f levels i (omega arith) (either-false (outOfRange (f x)) (anyOut (map f levels)) e .1)
+
+-- where none is outside, nothing is taken for 0
+pub products-kept : (step : ℕ) (levels : List ℤ) → anyOut (map (restored step) levels) ≡ false → map (restoredOrZero step) levels ≡ map (restored step) levels
+products-kept step [] e = refl
+products-kept step (x ∷ levels) e =
+    let p = either-false (outOfRange (restored step x)) (anyOut (map (restored step) levels)) e in
+    rw (p .0, products-kept step levels (p .1))

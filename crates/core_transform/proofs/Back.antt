@@ -6,7 +6,8 @@ use mathlib.Core.List.{List}
 use lib.Dec.{T, ltb, eqb, ltb→lt, eqb→eq}
 use lib.ListN.{getD}
 use mir.Facts.{and-yes}
-use Rattle.lifting.proofs.Tests.{all, all-at}
+use Rattle.lifting.specs.Tests.{all}
+use Rattle.lifting.proofs.Tests.{all-at}
 
 abbrev backAt : List ℕ → List ℕ → ℕ → Bool
 backAt ps qs k = ltb (getD ps k 0) 16 && eqb (getD qs (getD ps k 0) 0) k

@@ -3,3 +3,4 @@ pub mod Program
 pub mod Row
 pub mod Valid
 pub mod OperatorUses
+pub mod Tests

@@ -10,7 +10,7 @@ use lib.Seq.{getD-set-other}
 use lib.IntN.{ℤ, pos, negsuc}
 use mir.Val.{SFits}
 use mir.Syntax.{w32}
-use Rattle.lifting.proofs.Tests.{all}
+use Rattle.lifting.specs.Tests.{all}
 use Rattle.lifting.specs.Row.{Row}
 use Rattle.lifting.specs.Wrap.{wrap}
 use Rattle.lifting.specs.Program.{end, at, run, line, value, get, put, _then_, each}

@@ -5,7 +5,7 @@ use mathlib.Core.List.{List, [], _∷_, _++_, append-assoc, append-nil, map}
 use native.Mathlib.Omega.{arith}
 use native.Mathlib.Numerals.{add-one}
 use lib.ListN.{length, drop, getD, set, length-set}
-use lib.Seq.{drop-cons, drop-length, set-at}
+use lib.Seq.{drop-cons, drop-length, set-at, getD-at}
 use lib.IntN.{ℤ, pos}
 use Rattle.lifting.specs.Program.{at}
 use Rattle.picture.specs.Planes.{table}
@@ -34,6 +34,10 @@ up-to-more {f} {p} {now} {i} u h q = record {
       rw (u .is, q, drop-cons p i (pos 0) h, set-at (table i f) (getD p i (pos 0)) (drop (suc i) p) (f i) i (length-table i f), add-one i, table-more i f)
       (sym (append-assoc (table i f) (f i ∷ []) (drop (suc i) p)));
 }
+
+-- the next number is as it was
+pub up-to-next : {f : ℕ → ℤ} {p now : List ℤ} {i : ℕ} → UpTo f p i now → i < length p → at now i ≡ at p i
+up-to-next {f} {p} {now} {i} u h = rw (u .is, drop-cons p i (pos 0) h) (getD-at (table i f) (at p i) (drop (suc i) p) (pos 0) i (length-table i f))
 
 pub up-to-all : {f : ℕ → ℤ} {p now : List ℤ} {i : ℕ} → UpTo f p i now → i ≡ length p → now ≡ table (length p) f
 up-to-all {f} {p} u e = u .is ∙ rw (e, drop-length p) (append-nil (table (length p) f))

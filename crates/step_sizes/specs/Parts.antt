@@ -1,9 +1,9 @@
 -- What the parts of quantising and restoring promise each other: an entry of the table, division by a step, limits of levels. No call's contract cites this.
 use Prim.Native.Nat.{ℕ, _+_, _*_, _/_, _^_, _≤_, _<_}
 use mathlib.Core.Path.{_≡_}
-use mathlib.Core.Bool.{_||_}
+use mathlib.Core.Bool.{_||_, cond}
 use mathlib.Core.List.{List}
-use lib.IntN.{ℤ}
+use lib.IntN.{ℤ, pos}
 use lib.ListN.{getD}
 use lib.Signed.{ltZ}
 use Rattle.step_sizes.specs.declared.division.Divisor.{Divisor}
@@ -25,3 +25,7 @@ pub record Divides (by : Divisor) : Type 0 where
 -- a level's product with the step leaves the range where the level lies outside the limits
 pub record LimitsOf (l : Limits) : Type 0 where
   pub outside : (level : ℤ) → ltZ level (l .least) || ltZ (l .most) level ≡ outOfRange (restored (l .step) level)
+
+-- the product of a level and the step, or 0 where it is outside the range
+abbrev pub restoredOrZero : ℕ → ℤ → ℤ
+restoredOrZero step level = cond (outOfRange (restored step level)) (pos 0) (restored step level)

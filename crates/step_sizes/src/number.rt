@@ -5,7 +5,7 @@ ghost use Prim.Native.Nat.{_≤_, _<_};
 ghost use lib.IntN.{natAbs};
 ghost use Rattle.step_sizes.specs.Steps.{largestStep};
 ghost use Rattle.step_sizes.specs.Levels.{signed, quantised, restored, outOfRange};
-ghost use Rattle.step_sizes.specs.Parts.{Divides, LimitsOf};
+ghost use Rattle.step_sizes.specs.Parts.{Divides, LimitsOf, restoredOrZero};
 use crate::division::Divisor;
 use crate::division::divide;
 
@@ -70,4 +70,16 @@ pub fn restore_number(level: i32, step: u32) -> i32
     ensures { λ r. ⌜ r ≡ restored step level ⌝ }
 {
     level * (step as i32)
+}
+
+// The product of a level and the step, or 0 where it is outside the range.
+pub fn restore_or_zero(level: i32, limits: Limits) -> i32
+    requires { ⌜ LimitsOf limits ⌝ }
+    requires { ⌜ limits .step ≤ largestStep ⌝ }
+    ensures { λ r. ⌜ r ≡ restoredOrZero (limits .step) level ⌝ }
+{
+    if leaves_range(level, limits) {
+        return 0;
+    }
+    restore_number(level, limits.step)
 }

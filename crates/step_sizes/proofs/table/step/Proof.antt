@@ -6,7 +6,8 @@ use native.Mathlib.Omega.{arith}
 use lib.Dec.{T, eqb, eqb→eq}
 use lib.ListN.{getD}
 use borrow.Author.Needs.{needs}
-use Rattle.lifting.proofs.Tests.{all, all-at}
+use Rattle.lifting.specs.Tests.{all}
+use Rattle.lifting.proofs.Tests.{all-at}
 use Rattle.step_sizes.specs.Steps.{stepOf}
 use Rattle.step_sizes.specs.Parts.{Entry}
 use Rattle.step_sizes.proofs.table.step.Statement.{statement}

@@ -1,0 +1,39 @@
+-- The checks of the lengths one after the other: samples, second samples, planes. What refuses, refuses with index 0.
+use Prim.Native.Nat.{ℕ, zero, suc, _*_}
+use mathlib.Core.Path.{_≡_, refl, _∙_, sym}
+use mathlib.Core.Bool.{Bool}
+use mathlib.Core.List.{List, _++_}
+use borrow.Author.Tests.{eq-eqb, ne-eqb}
+use lib.IntN.{ℤ}
+use lib.ListN.{length}
+use Rattle.picture.specs.Planes.{Planes}
+use Rattle.picture.specs.Numbers.{firstOf, settled, sampleCheck, planeChecks}
+use Rattle.picture.proofs.NumberLaws.{settled-refused}
+use Rattle.find_step.specs.FindStep.{IndexBeside}
+
+module _ (n : ℕ) (samples second : List ℤ) (s : Planes) where
+  abbrev pub lengthChecks : List ℕ
+  lengthChecks = sampleCheck n samples ++ sampleCheck n second ++ planeChecks n s
+
+  pub samples-refused : (length samples ≡ 256 * n → ⊥) → 7 ≡ firstOf lengthChecks
+  samples-refused h = simp (ne-eqb (length samples) (256 * n) h)
+
+  module _ (e : length samples ≡ 256 * n) where
+    pub second-refused : (length second ≡ 256 * n → ⊥) → 7 ≡ firstOf lengthChecks
+    second-refused h = simp (eq-eqb (length samples) (256 * n) e, ne-eqb (length second) (256 * n) h)
+
+    pub planes-decide : length second ≡ 256 * n → {r : ℕ} → r ≡ firstOf (planeChecks n s) → r ≡ firstOf lengthChecks
+    planes-decide f q = q ∙ sym (simp (eq-eqb (length samples) (256 * n) e, eq-eqb (length second) (256 * n) f))
+
+-- what a refusal leaves: index 0, and every slice as it was
+pub record Refused (k : ℕ) (test : ℕ → Bool) (t s : Planes) (u second : List ℤ) : Type 0 where
+  pub index : IndexBeside k test 0
+  pub planes : s ≡ settled k t s
+  pub samples : second ≡ settled k u second
+
+beside : (k : ℕ) (test : ℕ → Bool) → (k ≡ 0 → ⊥) → IndexBeside k test 0
+beside zero test h = absurd (h refl)
+beside (suc k) test h = refl
+
+pub refused-all : (k : ℕ) (test : ℕ → Bool) (t s : Planes) (u second : List ℤ) → (k ≡ 0 → ⊥) → Refused k test t s u second
+refused-all k test t s u second h = record { index = beside k test h; planes = sym (settled-refused k t s h); samples = sym (settled-refused k u second h) }

@@ -1,0 +1,5 @@
+pub mod Differences
+pub mod Tries
+pub mod Search
+pub mod Checks
+pub mod Claims

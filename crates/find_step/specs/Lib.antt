@@ -1,0 +1,2 @@
+pub mod FindStep
+pub mod Claims
