@@ -85,6 +85,11 @@ typedef struct {
     lapped_size size;
 } lapped_header;
 
+/* What finding a step gives: the answer and, if it is 0, the step index; else zeros. */
+typedef struct {
+    uint32_t number, index;
+} lapped_found;
+
 /* How much work the inverse of a picture is: the answer and, if it is 0, how often each operator
  * runs, at both levels together, and the bytes of the planes and of the samples; else zeros. All
  * fit 32 bits: there are at most 216825 macroblocks, each with 1024 bytes of planes, 1024 of
@@ -150,6 +155,20 @@ uint32_t lapped_restore(uint32_t mode, lapped_size size, lapped_steps steps,
                         int32_t *dc, size_t dc_len,
                         int32_t *low, size_t low_len,
                         int32_t *high, size_t high_len);
+
+/* Finds an index that, used for all bands, keeps a tolerance: forward, quantise, restore and inverse
+ * leave every sample within it, the difference being exact (of the ends of the range it is
+ * 4294967295), and no product leaves the range. The answer is an index from 2 to 255 that passes,
+ * any of them, or 0, with which nothing changes, where none of those passes. Then the planes hold
+ * the restored coefficients of that index, and second holds their samples. Each index that is tried
+ * takes about the time of the four calls; there are up to 255 tries.
+ * Checks 1, 2, 3, then 7 of the samples, then 7 of the second ones, then 4, 5, 6. */
+lapped_found lapped_find_step(uint32_t mode, lapped_size size, uint32_t tolerance,
+                              const int32_t *samples, size_t samples_len,
+                              int32_t *dc, size_t dc_len,
+                              int32_t *low, size_t low_len,
+                              int32_t *high, size_t high_len,
+                              int32_t *second, size_t second_len);
 
 /* A plane file is little-endian: eight unsigned 32-bit words (mode, width, height, the offsets in
  * bytes of the DC, low-pass and high-pass planes: 32, 32 + 4 n, 32 + 64 n, the total length in

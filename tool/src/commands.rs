@@ -2,6 +2,7 @@
 
 mod diff;
 mod export;
+mod find_step;
 mod forecast;
 mod import;
 mod info;
@@ -42,6 +43,7 @@ commands! {
     Forecast in forecast,
     Export in export,
     Import in import,
+    FindStep in find_step,
     Quantise in quantise,
     Restore in restore,
     Roundtrip in roundtrip,

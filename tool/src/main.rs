@@ -32,7 +32,7 @@ use std::process::ExitCode;
 struct Cli {
     #[command(subcommand)]
     command: commands::Command,
-    /// Show no progress bar
+    /// Show no progress
     #[arg(short, long, global = true)]
     quiet: bool,
 }

@@ -1,4 +1,5 @@
-//! How much memory a command takes: a file's planes and samples or levels, and no third copy.
+//! How much memory a command takes: a file's planes and samples or levels, and no third copy; where a
+//! step is found, the samples that come back are the third, and there is no fourth.
 
 mod common;
 use common::pictures::Grey;
@@ -15,6 +16,13 @@ const COPY: u32 = WIDTH * HEIGHT;
 fn lapped_within(kilobytes: u32, arguments: &[&str]) -> Ran {
     let line = "ulimit -d $1; shift; RAYON_NUM_THREADS=1 exec \"$lapped\" \"$@\"";
     shell(line, &[&[kilobytes.to_string().as_str()], arguments].concat())
+}
+
+/// So many copies are enough and, since they do not fit into less, needed.
+fn assert_copies(copies: u32, arguments: &[&str]) {
+    lapped_within(copies * COPY + COPY / 4, arguments).assert_done(&format!("{arguments:?}"));
+    let ran = lapped_within(copies * COPY - COPY / 4, arguments);
+    assert_ne!(ran.status, 0, "{arguments:?}");
 }
 
 #[test]
@@ -36,14 +44,25 @@ fn two_copies_and_no_third() {
         vec!["roundtrip", &file],
     ];
     for arguments in &commands {
-        lapped_within(2 * COPY + COPY / 4, arguments).assert_done(&format!("{arguments:?}"));
-        // The limit is one: two copies do not fit into less than two.
-        let ran = lapped_within(2 * COPY - COPY / 4, arguments);
-        assert_ne!(ran.status, 0, "{arguments:?}");
+        assert_copies(2, arguments);
     }
     assert!(folder.read("out.planes") == folder.read("planes"));
 
     // Of two files, planes and samples of both.
     let two = ["diff", &file, &planes, "-o", &out];
     lapped_within(4 * COPY, &two).assert_done("diff");
+}
+
+/// The samples, and the planes and samples that come back.
+#[test]
+fn three_copies_to_find_a_step() {
+    let folder = Folder::new("memory_of_find_step");
+    let size = Size::new(WIDTH, HEIGHT);
+    let samples = Grey::any(16 * WIDTH as usize, 16 * HEIGHT as usize, 16).samples;
+    let file = folder.write("planes", &file_of_samples(2, size, &samples));
+    let out = folder.path("out.planes");
+    // Kept by the first index that is tried, so that the test does not wait for others.
+    let tolerance = u32::MAX.to_string();
+    assert_copies(3, &["find-step", &file, "-t", &tolerance]);
+    assert_copies(3, &["find-step", &file, "-t", &tolerance, "-o", &out]);
 }

@@ -28,12 +28,16 @@ fn each_command_reads_and_writes_pipes() {
     }
 
     // The file on standard output, the report on standard error.
-    for command in ["quantise", "restore"] {
+    for (command, option) in
+        [("quantise", ["-s", "9,8,7"]), ("restore", ["-s", "9,8,7"]), ("find-step", ["-t", "9"])]
+    {
         let out = folder.path("out");
-        let piped = lapped_reading(&[command, "-", "-s", "9,8,7", "-o", "-"], &plane_file);
-        let named = lapped(&[command, &path, "-s", "9,8,7", "-o", &out]);
+        let [name, value] = option;
+        let piped = lapped_reading(&[command, "-", name, value, "-o", "-"], &plane_file);
+        let named = lapped(&[command, &path, name, value, "-o", &out]);
         named.assert_done(command);
-        assert_eq!((piped.status, piped.err.as_str()), (0, named.text()), "{command}");
+        let report = named.text().replace(&path, "-");
+        assert_eq!((piped.status, piped.err.as_str()), (0, report.as_str()), "{command}");
         assert!(!piped.err.is_empty() && piped.out == folder.read("out"), "{command}");
         fs::remove_file(out).unwrap();
     }

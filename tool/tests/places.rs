@@ -20,11 +20,12 @@ fn folder_with_files(test: &str) -> (Folder, String, String, String) {
 const FILES: [&str; 3] = ["in.pgm", "one", "other"];
 
 /// Every command that writes, with where it is to write.
-fn writers<'a>(picture: &'a str, one: &'a str, other: &'a str, out: &'a str) -> [Vec<&'a str>; 6] {
+fn writers<'a>(picture: &'a str, one: &'a str, other: &'a str, out: &'a str) -> [Vec<&'a str>; 7] {
     [
         vec!["import", picture, "-m", "1", "-o", out],
         vec!["export", one, "--range", "0:65535", "--format", "png", "-o", out],
         vec!["export", one, "--range", "0:65535", "--format", "pgm", "-o", out],
+        vec!["find-step", one, "-t", "5", "-o", out],
         vec!["quantise", one, "-s", "40", "-o", out],
         vec!["restore", one, "-s", "40", "-o", out],
         vec!["diff", one, other, "-o", out],

@@ -7,11 +7,13 @@ use png::{BitDepth, ColorType};
 use reference::random::Random;
 
 /// What each command does with one plane file, in which there is a fault.
-fn commands<'a>(faulty: &'a str, sound: &'a str, out: &'a str) -> [Vec<&'a str>; 8] {
+fn commands<'a>(faulty: &'a str, sound: &'a str, out: &'a str) -> [Vec<&'a str>; 10] {
     [
         vec!["info", faulty],
         vec!["forecast", faulty],
         vec!["export", faulty, "-o", out],
+        vec!["find-step", faulty, "-t", "5"],
+        vec!["find-step", faulty, "-t", "5", "-o", out],
         vec!["quantise", faulty, "-s", "40", "-o", out],
         vec!["restore", faulty, "-s", "40", "-o", out],
         vec!["roundtrip", faulty],

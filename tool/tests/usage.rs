@@ -1,4 +1,4 @@
-//! How the program is called: wrong usage, help with examples that work, the progress bar.
+//! How the program is called: wrong usage, help with examples that work, progress.
 
 mod common;
 use common::pictures::Grey;
@@ -11,7 +11,7 @@ fn wrong_usage() {
     let folder = Folder::new("wrong_usage");
     let (file, out) = (folder.write("planes", &some_file(50)), folder.path("out.png"));
     let other = folder.path("out.tiff");
-    let calls: [&[&str]; 35] = [
+    let calls: [&[&str]; 41] = [
         &[],
         &["quantize"],
         &["info"],
@@ -37,6 +37,12 @@ fn wrong_usage() {
         &["import", &file, "-m", "3", "-o", &out],
         &["import", &file, "-m", "two", "-o", &out],
         &["import", &file, "-m", "2"],
+        &["find-step", &file],
+        &["find-step", "-t", "5"],
+        &["find-step", &file, "-t"],
+        &["find-step", &file, "-t", "-1"],
+        &["find-step", &file, "-t", "4294967296", "-o", &out],
+        &["find-step", &file, "-t", "five"],
         &["quantise", &file, "-o", &out],
         &["quantise", &file, "-s", "40"],
         &["quantise", &file, "-s", "-o", &out],
@@ -83,8 +89,17 @@ fn examples_of_the_help_work() {
     let help = lapped(&["--help"]);
     help.assert_done("--help");
     let all = examples(help.text());
-    let commands =
-        ["info", "forecast", "export", "import", "quantise", "restore", "roundtrip", "diff"];
+    let commands = [
+        "info",
+        "forecast",
+        "export",
+        "import",
+        "find-step",
+        "quantise",
+        "restore",
+        "roundtrip",
+        "diff",
+    ];
     assert_eq!(all.len(), commands.len(), "{all:?}");
     for (example, command) in all.iter().zip(commands) {
         assert!(example.starts_with(&format!("lapped {command} ")), "{example}");
@@ -118,13 +133,15 @@ fn on_a_terminal(arguments: &str) -> String {
 
 /// Only on a terminal, and not with `--quiet`.
 #[test]
-fn progress_bar() {
-    let folder = Folder::new("progress_bar");
+fn progress() {
+    let folder = Folder::new("progress");
     let size = Size::new(60, 60);
     let file = folder.write("planes", &file_of_samples(1, size, &vec![5; 256 * 3600]));
     let picture = folder.write("in.pgm", &Grey::any(960, 960, 8).to_file("pgm"));
     let (out, planes) = (folder.path("out.png"), folder.path("out.planes"));
-    for (command, unit) in [
+    for (command, sign) in [
+        (format!("find-step {file} -t 5"), "finding a step 0s"),
+        (format!("find-step {file} -t 5 -o {planes}"), "megabytes"),
         (format!("export {file} -o {out}"), "rows"),
         (format!("import {picture} -m 2 -o {planes}"), "megabytes"),
         (format!("quantise {file} -s 40 -o {planes}"), "megabytes"),
@@ -134,10 +151,11 @@ fn progress_bar() {
         (format!("info {file} {file}"), "files"),
     ] {
         let shown = on_a_terminal(&command);
-        assert!(shown.contains(unit) && shown.contains(" of "), "{command}: {shown:?}");
+        let counted = sign.starts_with("finding") || shown.contains(" of ");
+        assert!(shown.contains(sign) && counted, "{command}: {shown:?}");
         for quiet in [format!("--quiet {command}"), format!("{command} -q")] {
             let shown = on_a_terminal(&quiet);
-            assert!(!shown.contains(unit), "{quiet}: {shown:?}");
+            assert!(!shown.contains(sign), "{quiet}: {shown:?}");
         }
         let arguments: Vec<&str> = command.split(' ').collect();
         lapped(&arguments).assert_done(&command);

@@ -2,28 +2,42 @@
 use Prim.Native.Nat.{ℕ, zero, suc, _*_}
 use mathlib.Core.Path.{_≡_, refl, _∙_, sym}
 use mathlib.Core.Bool.{Bool}
-use mathlib.Core.List.{List, _++_}
+use mathlib.Core.List.{List}
 use borrow.Author.Tests.{eq-eqb, ne-eqb}
 use lib.IntN.{ℤ}
 use lib.ListN.{length}
-use Rattle.picture.specs.Planes.{Planes}
-use Rattle.picture.specs.Numbers.{firstOf, settled, sampleCheck, planeChecks}
+use Rattle.picture.specs.Planes.{Planes, Lengths}
+use Rattle.picture.specs.Numbers.{firstOf, settled, planeChecks}
 use Rattle.picture.proofs.NumberLaws.{settled-refused}
-use Rattle.find_step.specs.FindStep.{IndexBeside}
+use Rattle.picture.proofs.CheckLaws.{all-pass, pass-all, passes, like, planes-fit}
+use Rattle.find_step.specs.FindStep.{IndexBeside, lengthChecks}
+
+-- every slice of its length
+pub record Fits (n : ℕ) (a b : List ℤ) (s : Planes) : Type 0 where
+  pub samples : length a ≡ 256 * n
+  pub second : length b ≡ 256 * n
+  pub planes : Lengths n s
 
 module _ (n : ℕ) (samples second : List ℤ) (s : Planes) where
-  abbrev pub lengthChecks : List ℕ
-  lengthChecks = sampleCheck n samples ++ sampleCheck n second ++ planeChecks n s
-
-  pub samples-refused : (length samples ≡ 256 * n → ⊥) → 7 ≡ firstOf lengthChecks
+  pub samples-refused : (length samples ≡ 256 * n → ⊥) → 7 ≡ firstOf (lengthChecks n samples second s)
   samples-refused h = simp (ne-eqb (length samples) (256 * n) h)
 
   module _ (e : length samples ≡ 256 * n) where
-    pub second-refused : (length second ≡ 256 * n → ⊥) → 7 ≡ firstOf lengthChecks
+    pub second-refused : (length second ≡ 256 * n → ⊥) → 7 ≡ firstOf (lengthChecks n samples second s)
     second-refused h = simp (eq-eqb (length samples) (256 * n) e, ne-eqb (length second) (256 * n) h)
 
-    pub planes-decide : length second ≡ 256 * n → {r : ℕ} → r ≡ firstOf (planeChecks n s) → r ≡ firstOf lengthChecks
+    pub planes-decide : length second ≡ 256 * n → {r : ℕ} → r ≡ firstOf (planeChecks n s) → r ≡ firstOf (lengthChecks n samples second s)
     planes-decide f q = q ∙ sym (simp (eq-eqb (length samples) (256 * n) e, eq-eqb (length second) (256 * n) f))
+
+  -- checks that pass
+  pub lengths-fit : firstOf (lengthChecks n samples second s) ≡ 0 → Fits n samples second s
+  lengths-fit e =
+      let p = all-pass (lengthChecks n samples second s) e in
+      record {
+        samples = like (length samples) (256 * n) (passes 7 _ tt (p .0));
+        second = like (length second) (256 * n) (passes 7 _ tt (p .1 .0));
+        planes = planes-fit n s (pass-all (planeChecks n s) (p .1 .1));
+      }
 
 -- what a refusal leaves: index 0, and every slice as it was
 pub record Refused (k : ℕ) (test : ℕ → Bool) (t s : Planes) (u second : List ℤ) : Type 0 where

@@ -3,3 +3,4 @@ pub mod Tries
 pub mod Search
 pub mod Checks
 pub mod Claims
+pub mod Sanity

@@ -64,7 +64,12 @@ abbrev pub IndexBeside : ℕ → (ℕ → Bool) → ℕ → Type 0
 IndexBeside zero test index = Answer test index
 IndexBeside (suc k) test index = index ≡ 0
 
--- as forward: 1, 2, 3, 7 for the samples and then for the second samples, 4, 5, 6
+-- ---- the number
+
+-- 7 for the samples and then for the second samples, then 4, 5, 6
+abbrev pub lengthChecks : ℕ → List ℤ → List ℤ → Planes → List ℕ
+lengthChecks n samples second s = sampleCheck n samples ++ sampleCheck n second ++ planeChecks n s
+
+-- as forward: 1, 2, 3 and then those
 unfoldable pub findNumber : ℕ → Size → List ℤ → List ℤ → Planes → ℕ
-findNumber mode size samples second s =
-    firstOf (shapeChecks mode size ++ sampleCheck (macroblocks size) samples ++ sampleCheck (macroblocks size) second ++ planeChecks (macroblocks size) s)
+findNumber mode size samples second s = firstOf (shapeChecks mode size ++ lengthChecks (macroblocks size) samples second s)

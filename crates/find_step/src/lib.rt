@@ -1,17 +1,17 @@
 // The call that finds a step: one index for all bands that leaves every sample within a tolerance.
 ghost use mathlib.Core.Path.{_≡_};
-ghost use mathlib.Core.List.{_++_};
-ghost use Prim.Native.Nat.{_*_};
+ghost use Prim.Native.Nat.{_*_, _≤_};
 ghost use lib.ListN.{length};
 ghost use Rattle.picture.specs.Sizes.{Sized, macroblocks};
 ghost use Rattle.picture.specs.Planes.{Lengths, planes};
-ghost use Rattle.picture.specs.Numbers.{firstOf, settled, planeChecks, sampleCheck};
-ghost use Rattle.find_step.specs.FindStep.{triedPlanesBy, triedSamplesBy, passesBy, triedPlanes, triedSamples, passes, Answer, IndexBeside, findNumber};
+ghost use Rattle.picture.specs.Numbers.{firstOf, settled};
+ghost use Rattle.find_step.specs.FindStep.{triedPlanesBy, triedSamplesBy, passesBy, triedPlanes, triedSamples, passes, Answer, IndexBeside, lengthChecks, findNumber};
 use crate::attempt::take_zero;
 use crate::attempt::try_index;
 use picture::checks::Checked;
 use picture::checks::check_planes;
 use picture::checks::check_shape;
+use picture::counts::Macroblocks;
 use picture::mode::Mode;
 use picture::size::Size;
 
@@ -55,6 +55,28 @@ fn find_index(
     0
 }
 
+// The number of the first check that fails of the lengths of both samples and of the planes, or 0.
+fn check_lengths(
+    n: Macroblocks,
+    samples: &[i32],
+    second: &[i32],
+    dc: &[i32],
+    low: &[i32],
+    high: &[i32],
+) -> u32
+    requires { ⌜ n .0 ≤ 216825 ⌝ }
+    ensures { λ r. ⌜ r ≡ firstOf (lengthChecks (n .0) (now (samples .entry)) (now (second .entry)) (planes (now (dc .entry)) (now (low .entry)) (now (high .entry)))) ⌝ }
+{
+    let wanted = 256 * (n.0 as usize);
+    if samples.len() != wanted {
+        return 7;
+    }
+    if second.len() != wanted {
+        return 7;
+    }
+    check_planes(n, dc, low, high)
+}
+
 // The checks of the lengths, and then the search.
 fn find_sized(
     mode: Mode,
@@ -67,28 +89,15 @@ fn find_sized(
     second: &mut [i32],
 ) -> Found
     requires { ⌜ Sized size ⌝ }
-    ensures { λ r. ⌜ r .number ≡ firstOf (sampleCheck (macroblocks size) (now (samples .entry)) ++ sampleCheck (macroblocks size) (now (second .entry))
-        ++ planeChecks (macroblocks size) (planes (now (dc .entry)) (now (low .entry)) (now (high .entry)))) ⌝ }
+    ensures { λ r. ⌜ r .number ≡
+        firstOf (lengthChecks (macroblocks size) (now (samples .entry)) (now (second .entry)) (planes (now (dc .entry)) (now (low .entry)) (now (high .entry)))) ⌝ }
     ensures { λ r. ⌜ IndexBeside (r .number) (passesBy mode size (now (samples .entry)) tolerance) (r .index) ⌝ }
     ensures { λ r. ⌜ planes (now (dc .exit)) (now (low .exit)) (now (high .exit)) ≡
         settled (r .number) (triedPlanesBy mode size (now (samples .entry)) (r .index)) (planes (now (dc .entry)) (now (low .entry)) (now (high .entry))) ⌝ }
     ensures { λ r. ⌜ now (second .exit) ≡ settled (r .number) (triedSamplesBy mode size (now (samples .entry)) (r .index)) (now (second .entry)) ⌝ }
 {
     let n = size.macroblocks();
-    let wanted = 256 * (n.0 as usize);
-    if samples.len() != wanted {
-        return Found {
-            number: 7,
-            index: 0,
-        };
-    }
-    if second.len() != wanted {
-        return Found {
-            number: 7,
-            index: 0,
-        };
-    }
-    let number = check_planes(n, dc, low, high);
+    let number = check_lengths(n, samples, second, dc, low, high);
     if number != 0 {
         return Found { number, index: 0 };
     }

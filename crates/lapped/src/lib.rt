@@ -9,7 +9,10 @@ ghost use Rattle.forecast.specs.Forecast.{forecastAnswer};
 ghost use Rattle.step_sizes.specs.Steps.{stepAnswer};
 ghost use Rattle.quantise.specs.Quantise.{quantisedPlanes, quantiseNumber};
 ghost use Rattle.restore.specs.Restore.{restoredPlanes, restoreNumber};
+ghost use Rattle.find_step.specs.FindStep.{triedPlanes, triedSamples, passes, IndexBeside, findNumber};
 use bands::steps::Steps;
+use find_step::Found;
+use find_step::find_step;
 use forecast::Work;
 use forecast::forecast;
 use forward::forward;
@@ -180,4 +183,24 @@ pub extern "C" fn lapped_restore(
         low,
         high,
     )
+}
+
+#[no_mangle]
+pub extern "C" fn lapped_find_step(
+    mode: u32,
+    size: Size,
+    tolerance: u32,
+    samples: &[i32],
+    dc: &mut [i32],
+    low: &mut [i32],
+    high: &mut [i32],
+    second: &mut [i32],
+) -> Found
+    ensures { λ r. ⌜ r .number ≡ findNumber mode size (now (samples .entry)) (now (second .entry)) (planes (now (dc .entry)) (now (low .entry)) (now (high .entry))) ⌝ }
+    ensures { λ r. ⌜ IndexBeside (r .number) (passes mode size (now (samples .entry)) tolerance) (r .index) ⌝ }
+    ensures { λ r. ⌜ planes (now (dc .exit)) (now (low .exit)) (now (high .exit)) ≡
+        settled (r .number) (triedPlanes mode size (now (samples .entry)) (r .index)) (planes (now (dc .entry)) (now (low .entry)) (now (high .entry))) ⌝ }
+    ensures { λ r. ⌜ now (second .exit) ≡ settled (r .number) (triedSamples mode size (now (samples .entry)) (r .index)) (now (second .entry)) ⌝ }
+{
+    find_step(mode, size, tolerance, samples, dc, low, high, second)
 }

@@ -31,7 +31,7 @@ abbrev pub of : ℕ → ℕ → Size
 of W H = record { width = record { 0 = W }; height = record { 0 = H } }
 
 -- planes with these DC numbers and the rest 0
-abbrev dcOnly : ℕ → List ℤ → Planes
+abbrev pub dcOnly : ℕ → List ℤ → Planes
 dcOnly n dc = record { dc = dc; low = table (15 * n) (λ i. pos 0); high = table (240 * n) (λ i. pos 0) }
 
 -- ---- bench values: 1 x 1, mode 0 (01, "Bench values")

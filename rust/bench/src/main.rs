@@ -1,7 +1,9 @@
 //! The proved library timed beside the plain reference, memcpy and, where it is installed, jxrlib.
 //!
-//! Usage: bench [--inverse] [--forward] [--levels] [--file] [--jxrlib]; without a flag, every section.
+//! Usage: bench [--inverse] [--forward] [--levels] [--finder] [--file] [--jxrlib]; without a flag,
+//! every section.
 
+mod finder;
 mod kernels;
 mod levels;
 mod measure;
@@ -16,15 +18,16 @@ use reference::random::{Random, Values};
 const SIZES: [(u32, u32); 4] = [(1, 1), (4, 4), (64, 64), (525, 413)];
 
 const HEADING: &str = "\
-Nanoseconds of processor time per sample (for levels and files: per number of the planes; for jxrlib:
-as said there), medians. The columns take turns in one run, on the same buffers. Every buffer is
-written once before the clock starts, so no first touch of a page is timed; no buffer is cleared
-between runs. The plain reference's working memory is allocated beforehand.";
+Nanoseconds of processor time per sample (for levels and files: per number of the planes; for finder
+and jxrlib: as said there), medians. The columns take turns in one run, on the same buffers. Every
+buffer is written once before the clock starts, so no first touch of a page is timed; no buffer is
+cleared between runs. The plain reference's working memory is allocated beforehand.";
 
 fn main() {
     let flags: Vec<String> = std::env::args().skip(1).collect();
     if let Some(flag) = flags.iter().find(|flag| !SECTIONS.iter().any(|(name, _)| name == flag)) {
-        eprintln!("bench: {flag} is none of --inverse, --forward, --levels, --file and --jxrlib");
+        let [first @ .., last] = SECTIONS.map(|(name, _)| name);
+        eprintln!("bench: {flag} is none of {} and {last}", first.join(", "));
         std::process::exit(2);
     }
     println!("{HEADING}");
@@ -35,10 +38,11 @@ fn main() {
     }
 }
 
-const SECTIONS: [(&str, fn()); 5] = [
+const SECTIONS: [(&str, fn()); 6] = [
     ("--inverse", inverse_section),
     ("--forward", forward_section),
     ("--levels", levels::section),
+    ("--finder", finder::section),
     ("--file", file_section),
     ("--jxrlib", kernels::section),
 ];

@@ -1,8 +1,8 @@
 //! The C interface of liblapped.a, item by item as in `include/lapped.h`.
 //!
 //! Nothing is checked or renamed here; the crate `lapped` has safe calls over these. Each function
-//! that takes pointers takes any mode, size, step indices and lengths with them, and answers the
-//! number of the first check that fails, 0 if none does. Each pointer must be non-null and aligned,
+//! that takes pointers takes any mode, size, step indices, tolerance and lengths with them, and answers
+//! the number of the first check that fails, 0 if none does. Each pointer must be non-null and aligned,
 //! even where its length is 0, with as many elements behind it as its length says, and what is written
 //! must overlap nothing else that is passed.
 //!
@@ -47,6 +47,14 @@ pub struct lapped_header {
     pub number: u32,
     pub mode: u32,
     pub size: lapped_size,
+}
+
+/// What finding a step gives: the answer and, if it is 0, the step index; else zeros.
+#[repr(C)]
+#[derive(Clone, Copy, Debug, PartialEq, Eq)]
+pub struct lapped_found {
+    pub number: u32,
+    pub index: u32,
 }
 
 /// How much work the inverse of a picture is: the answer and, if it is 0, how often each operator
@@ -148,6 +156,24 @@ extern "C" {
         high: *mut i32,
         high_len: usize,
     ) -> u32;
+
+    /// An index for all bands that keeps a tolerance, with the restored coefficients and their samples.
+    /// Checks 1, 2, 3, then 7 of the samples, then 7 of the second ones, then 4, 5, 6.
+    pub fn lapped_find_step(
+        mode: u32,
+        size: lapped_size,
+        tolerance: u32,
+        samples: *const i32,
+        samples_len: usize,
+        dc: *mut i32,
+        dc_len: usize,
+        low: *mut i32,
+        low_len: usize,
+        high: *mut i32,
+        high_len: usize,
+        second: *mut i32,
+        second_len: usize,
+    ) -> lapped_found;
 
     /// The mode and the size of a plane file that is lent whole. Checks 9, 1, 2, 3, 10, 11, 12.
     pub fn lapped_read_header(bytes: *const u8, len: usize) -> lapped_header;

@@ -5,8 +5,8 @@
 //! the picture at a quarter of its width and height. A [`PlaneFile`] keeps planes as bytes. Samples
 //! and coefficients are `i32`, any values; sums wrap. For a smaller archive, [`quantise`] takes
 //! coefficients to levels, smaller numbers that [`restore`] takes back to nearly the same coefficients;
-//! the step of each band, chosen by [`Steps`], says how nearly. [`forecast`] says beforehand how much
-//! work a picture is.
+//! the step of each band, chosen by [`Steps`], says how nearly, and [`find_step`] finds one that keeps
+//! every sample within a tolerance. [`forecast`] says beforehand how much work a picture is.
 //!
 //! The calls are functions of `liblapped.a`, which is proved to meet its definitions for every input.
 //! This crate adds the types: a call that gets a [`Mode`] and a [`Size`] can only be refused for the
@@ -27,12 +27,13 @@
 //!
 //! Every operation comes in two kinds: a method that allocates its result, as above, and a function
 //! that writes into memory lent by the caller and allocates nothing ([`inverse`], [`forward`],
-//! [`quarter_view`], [`quantise`], [`restore`], [`read_header`], [`load`], [`save`]).
+//! [`quarter_view`], [`quantise`], [`restore`], [`find_step`], [`read_header`], [`load`], [`save`]).
 
 #![deny(missing_docs)]
 
 #[macro_use]
 mod call;
+mod find_step;
 mod forecast;
 mod levels;
 mod mode;
@@ -43,6 +44,7 @@ mod size;
 mod steps;
 mod transform;
 
+pub use find_step::{find_step, Found};
 pub use forecast::{forecast, Work};
 pub use levels::{quantise, restore};
 pub use mode::Mode;

@@ -2,9 +2,9 @@
 
 mod common;
 use common::*;
-use lapped::{Mode, PlaneFile, Planes, Refusal, Steps};
+use lapped::{Found, Mode, PlaneFile, Planes, Refusal, Steps};
 use reference::random::{Random, Values};
-use reference::step_sizes;
+use reference::{find_step, step_sizes};
 
 fn random_owned(random: &mut Random, width: u32, height: u32) -> Planes {
     let shape = size(width, height);
@@ -70,6 +70,26 @@ fn levels_are_those_of_the_reference() {
 
         levels.high[0] = i32::MAX;
         assert_eq!(levels.restored(mode, steps), Err(Refusal::Product), "{mode:?}");
+    }
+}
+
+#[test]
+fn what_is_found_is_the_references() {
+    let (mut random, shape) = (Random::new(93), size(3, 2));
+    for mode in Mode::ALL {
+        let samples = random.numbers(shape.samples(), Values::Small);
+        for tolerance in [0, 40] {
+            let Found { index, planes, samples: back } =
+                Found::within(mode, shape, tolerance, &samples).unwrap();
+            let (number, plain_size, index) =
+                (mode.number(), reference_size(shape), u32::from(index));
+            let passes = find_step::passes(number, plain_size, tolerance, index, &samples);
+            assert!(passes, "{mode:?}, index {index}");
+            let expected = find_step::restored(number, plain_size, index, &samples).unwrap();
+            assert_eq!(planes.size, shape);
+            assert_planes(&[planes.dc, planes.low, planes.high], &expected.planes, "the planes");
+            assert_same(&back, &expected.samples, "the samples");
+        }
     }
 }
 

@@ -5,6 +5,7 @@
 //! Figures 4.4 to 4.14. Every operation gives `Err(number)` with the number of these papers where it
 //! refuses, and has then changed nothing.
 
+pub mod find_step;
 pub mod forecast;
 pub mod level;
 pub mod operators;

@@ -16,6 +16,8 @@ static void print_layout(void) {
     printf("header %u: %u %u %u\n", (unsigned)sizeof(lapped_header),
            (unsigned)offsetof(lapped_header, number), (unsigned)offsetof(lapped_header, mode),
            (unsigned)offsetof(lapped_header, size));
+    printf("found %u: %u %u\n", (unsigned)sizeof(lapped_found),
+           (unsigned)offsetof(lapped_found, number), (unsigned)offsetof(lapped_found, index));
     printf("work %u: %u %u %u %u %u %u\n", (unsigned)sizeof(lapped_work),
            (unsigned)offsetof(lapped_work, number), (unsigned)offsetof(lapped_work, cores),
            (unsigned)offsetof(lapped_work, square_filters),

@@ -1,7 +1,7 @@
-//! The functions of the C interface on slices, with any mode, size, steps and lengths, and their
-//! numbers.
+//! The functions of the C interface on slices, with any mode, size, steps, tolerance and lengths, and
+//! their numbers.
 
-use lapped_sys::{lapped_header, lapped_size, lapped_steps, lapped_work};
+use lapped_sys::{lapped_found, lapped_header, lapped_size, lapped_steps, lapped_work};
 
 /// Calls a function with plain arguments, then slices that it reads, then slices that it writes.
 macro_rules! call {
@@ -56,6 +56,16 @@ pub fn restore(mode: u32, size: lapped_size, steps: [u32; 3], slices: [&mut [i32
 
 fn raw_steps([dc, low, high]: [u32; 3]) -> lapped_steps {
     lapped_steps { dc, low, high }
+}
+
+pub fn find_step(
+    mode: u32,
+    size: lapped_size,
+    tolerance: u32,
+    slices: [&mut [i32]; 5],
+) -> lapped_found {
+    let [samples, dc, low, high, second] = slices;
+    call!(lapped_find_step(mode, size, tolerance); samples; dc, low, high, second)
 }
 
 pub fn read_header(bytes: &[u8]) -> lapped_header {

@@ -5,7 +5,8 @@ use lapped_sys::lapped_size;
 use reference::random::{Random, Values};
 
 /// A check of a call, by its number. A call that reads planes and writes others makes the checks 4, 5
-/// and 6 of both; the second ones are about what it writes.
+/// and 6 of both, and one that reads samples and writes others makes check 7 of both; the second ones
+/// are about what it writes.
 #[derive(Clone, Copy)]
 pub struct Check {
     number: u32,
@@ -42,6 +43,8 @@ pub struct Arguments {
     pub size: lapped_size,
     /// The step indices of DC, low-pass and high-pass, for a call that takes them.
     pub steps: [u32; 3],
+    /// How far a sample may be off, for a call that takes it; every tolerance is sound.
+    pub tolerance: u32,
     /// The lengths of what the numbers above are about, in that order: for checks that a call makes
     /// twice first those of what it reads, then those of what it writes.
     lengths: [[usize; 6]; 2],
@@ -64,7 +67,7 @@ impl Arguments {
         let size = raw_size(width, height);
         let n = size.width as usize * size.height as usize;
         let lengths = [[n, 15 * n, 240 * n, 256 * n, 16 * n, 32 + 1024 * n]; 2];
-        Arguments { mode, size, steps: [0, 40, 255], lengths, outside: None }
+        Arguments { mode, size, steps: [0, 40, 255], tolerance: 5, lengths, outside: None }
     }
 
     /// The size for the reference.
@@ -163,8 +166,9 @@ pub fn faults<T: Copy>(order: &[T]) -> impl Iterator<Item = (Vec<T>, T)> + '_ {
     })
 }
 
-/// Sound arguments of random modes, steps and small shapes, broken by every set of faults: a fault
-/// alone in every way, several together in random ones. With each comes the number of the papers.
+/// Sound arguments of random modes, steps, tolerances and small shapes, broken by every set of faults:
+/// a fault alone in every way, several together in random ones. With each comes the number of the
+/// papers.
 pub fn refused_arguments(
     order: &'static [u32],
     random: &mut Random,
@@ -175,7 +179,9 @@ pub fn refused_arguments(
         for _ in 0..4 {
             let [mode, width, height] = [0, 1, 1].map(|least| least + random.below(3) as u32);
             let steps = [0; 3].map(|_| random.below(256) as u32);
-            let mut broken = vec![Arguments { steps, ..Arguments::fitting(mode, width, height) }];
+            let tolerance = random.bits() as u32;
+            let sound = Arguments { steps, tolerance, ..Arguments::fitting(mode, width, height) };
+            let mut broken = vec![sound];
             for &check in &checks {
                 broken = any(random, &broken).broken(check);
             }
