@@ -9,9 +9,11 @@ use lib.IntN.{ℤ}
 use lib.ListN.{length, take}
 use lib.Seq.{take-all}
 use Rattle.lifting.specs.Program.{at}
+use Rattle.lifting.specs.Wrap.{wrap}
+use Rattle.lifting.proofs.WrapLaws.{wrap-id}
 use Rattle.picture.proofs.CheckLaws.{either-false}
-use Rattle.step_sizes.specs.Levels.{restored, outOfRange}
-use Rattle.step_sizes.specs.Parts.{restoredOrZero}
+use Rattle.step_sizes.specs.Levels.{outOfRange}
+use Rattle.step_sizes.proofs.Signs.{in-range}
 use Rattle.bands.specs.Bands.{anyOut}
 
 -- one number more is looked at
@@ -36,9 +38,9 @@ each-inside f [] i h e = absurd (omega arith)
 each-inside f (x ∷ levels) zero h e = either-false (outOfRange (f x)) (anyOut (map f levels)) e .0
 each-inside f (x ∷ levels) (suc i) h e = each-inside f levels i (omega arith) (either-false (outOfRange (f x)) (anyOut (map f levels)) e .1)
 
--- where none is outside, nothing is taken for 0
-pub products-kept : (step : ℕ) (levels : List ℤ) → anyOut (map (restored step) levels) ≡ false → map (restoredOrZero step) levels ≡ map (restored step) levels
-products-kept step [] e = refl
-products-kept step (x ∷ levels) e =
-    let p = either-false (outOfRange (restored step x)) (anyOut (map (restored step) levels)) e in
-    rw (p .0, products-kept step levels (p .1))
+-- and reducing changes none
+pub products-kept : (f : ℤ → ℤ) (levels : List ℤ) → anyOut (map f levels) ≡ false → map (λ x. wrap (f x)) levels ≡ map f levels
+products-kept f [] e = refl
+products-kept f (x ∷ levels) e =
+    let p = either-false (outOfRange (f x)) (anyOut (map f levels)) e in
+    rw (wrap-id (in-range (f x) (p .0)), products-kept f levels (p .1))

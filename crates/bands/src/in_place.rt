@@ -7,10 +7,9 @@ ghost use Rattle.step_sizes.specs.Steps.{stepOf};
 ghost use Rattle.step_sizes.specs.Levels.{quantised, restored};
 ghost use Rattle.bands.specs.Bands.{anyOut};
 use step_sizes::division::divisor_of;
-use step_sizes::number::leaves_range;
-use step_sizes::number::limits_of;
-use step_sizes::number::quantise_number;
-use step_sizes::number::restore_or_zero;
+use step_sizes::nearest::round_limits;
+use step_sizes::nearest::round_number;
+use step_sizes::number::outside;
 
 // Whether the product of any level and the step is outside the signed 32-bit range; where none is, the plane has the products. The walk has no
 // early end, so that it goes by fours.
@@ -20,12 +19,12 @@ pub fn round_plane(index: u32, plane: &mut [i32]) -> bool
     ensures { λ r. ⌜ (r ≡ false → now (plane .exit) ≡ map (restored (stepOf index)) (map (quantised (stepOf index)) (now (plane .entry)))) ⌝ }
 {
     let by = divisor_of(index);
-    let limits = limits_of(by.step);
+    let limits = round_limits(by.step);
     let mut out = false;
     for i in 0..plane.len() {
-        let level = quantise_number(plane[i], by);
-        out = out | leaves_range(level, limits);
-        plane[i] = restore_or_zero(level, limits);
+        let x = plane[i];
+        out = out | outside(x, limits);
+        plane[i] = round_number(x, by);
     }
     out
 }

@@ -8,8 +8,8 @@ ghost use Rattle.step_sizes.specs.Steps.{stepOf};
 ghost use Rattle.step_sizes.specs.Levels.{quantised, restored};
 ghost use Rattle.bands.specs.Bands.{anyOut};
 use step_sizes::division::divisor_of;
-use step_sizes::number::leaves_range;
 use step_sizes::number::limits_of;
+use step_sizes::number::outside;
 use step_sizes::number::quantise_number;
 use step_sizes::number::restore_number;
 use step_sizes::table::step;
@@ -33,7 +33,7 @@ pub fn any_leaves_range(index: u32, levels: &[i32]) -> bool
     let limits = limits_of(step(index));
     let mut out = false;
     for i in 0..levels.len() {
-        out = out | leaves_range(levels[i], limits);
+        out = out | outside(levels[i], limits);
     }
     out
 }

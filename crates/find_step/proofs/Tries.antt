@@ -1,6 +1,6 @@
 -- A try, from what its parts leave. That of index 0 gives the picture itself: its step is 1, by which quantising and restoring change nothing, and inverse undoes forward.
 use Prim.Native.Nat.{ℕ, zero, suc, _*_}
-use mathlib.Core.Path.{_≡_, refl, sym, _∙_}
+use mathlib.Core.Path.{_≡_, refl, sym, ap, _∙_}
 use mathlib.Core.Bool.{Bool, true, false}
 use mathlib.Core.List.{List, [], _∷_, map}
 use native.Mathlib.Omega.{arith}
@@ -62,26 +62,29 @@ pub record Tried (mode : Mode) (size : Size) (samples : List ℤ) (tolerance ind
 module _ (mode : Mode) (size : Size) (samples : List ℤ) where
   module _ (tolerance index : ℕ) {s : Planes} {out : Bool} (e : s ≡ forwardBy mode size samples)
       (o : out ≡ anyOutOf (restoredPlanes (allBands index) (quantisedPlanes (allBands index) s))) where
+    tried : restoredPlanes (allBands index) (quantisedPlanes (allBands index) s) ≡ triedPlanesBy mode size samples index
+    unfolding triedPlanesBy
+    tried = ap (λ (p : Planes). restoredPlanes (allBands index) (quantisedPlanes (allBands index) p)) e
+
+    found : out ≡ anyOutOf (triedPlanesBy mode size samples index)
+    found = o ∙ ap anyOutOf tried
+
     pub out-of-range : out ≡ true → false ≡ passesBy mode size samples tolerance index
-    unfolding passesBy triedPlanesBy
-    out-of-range h = rw (← e, ← o, h)
+    unfolding passesBy
+    out-of-range h = rw (sym found ∙ h)
 
     module _ (h : out ≡ false) {t : Planes} {u : List ℤ} {r : Bool} (p : t ≡ restoredPlanes (allBands index) (quantisedPlanes (allBands index) s))
         (q : u ≡ inverseBy mode size t) (n : r ≡ all (256 * macroblocks size) (near tolerance samples u)) where
       tried-planes : t ≡ triedPlanesBy mode size samples index
-      unfolding triedPlanesBy
-      tried-planes = rw (← e) p
+      tried-planes = p ∙ tried
 
       tried-samples : u ≡ triedSamplesBy mode size samples index
       unfolding triedSamplesBy
-      tried-samples = rw (← tried-planes) q
-
-      none : anyOutOf (triedPlanesBy mode size samples index) ≡ false
-      none = rw (← tried-planes, p) (sym o ∙ h)
+      tried-samples = q ∙ ap (inverseBy mode size) tried-planes
 
       passed : r ≡ passesBy mode size samples tolerance index
       unfolding passesBy
-      passed = rw (none, ← tried-samples) n
+      passed = rw (sym found ∙ h, ← tried-samples) n
 
       pub decided : Tried mode size samples tolerance index r t u
       decided = record { passes = passed; planes = tried-planes; second = tried-samples }
@@ -96,7 +99,7 @@ module _ (mode : Mode) (size : Size) (samples : List ℤ) where
 
   pub zero-samples : {s : Planes} {u : List ℤ} → s ≡ forwardBy mode size samples → u ≡ inverseBy mode size s → u ≡ triedSamplesBy mode size samples 0
   unfolding triedSamplesBy
-  zero-samples e q = rw (← zero-planes e) q
+  zero-samples e q = q ∙ ap (inverseBy mode size) (zero-planes e)
 
   module _ (sized : Sized size) (row : Row (256 * macroblocks size) samples) where
     pub samples-same : triedSamplesBy mode size samples 0 ≡ samples

@@ -14,7 +14,7 @@ use Rattle.step_sizes.specs.Levels.{quantised, restored}
 use Rattle.step_sizes.specs.Claims.{Rounds, StepClaim}
 use Rattle.step_sizes.proofs.Reciprocal.{every-step-works}
 use Rattle.step_sizes.proofs.Rounding.{level-most, level-low, level-high, level-again}
-use Rattle.step_sizes.proofs.Signs.{sign-fits}
+use Rattle.step_sizes.proofs.Signs.{sign-fits, neg-times}
 
 -- ---- how far two numbers are apart
 
@@ -30,10 +30,6 @@ neg-apart : (n b h : ℕ) → suc n ≤ b + h → b ≤ suc n + h → natAbs (ne
 neg-apart n b h p q = rw (negℤ-negℤ (pos b)) (apart b (suc n) h (ltb b (suc n)) refl q p)
 
 -- ---- negative numbers
-
-neg-times : (q s : ℕ) → negℤ (pos q) *ℤ pos s ≡ negℤ (pos (q * s))
-neg-times zero s = let z : 0 * s ≡ 0 = omega arith in rw z
-neg-times (suc q) s = refl
 
 quantised-neg : (step p : ℕ) → 0 < p → quantised step (negℤ (pos p)) ≡ negℤ (pos ((p + step / 2) / step))
 unfolding quantised

@@ -1,15 +1,16 @@
 // One coefficient quantised, and one level restored.
 ghost use mathlib.Core.Path.{_≡_};
-ghost use mathlib.Core.Bool.{false};
+ghost use mathlib.Core.Bool.{false, _||_};
 ghost use Prim.Native.Nat.{_≤_, _<_};
 ghost use lib.IntN.{natAbs};
+ghost use lib.Signed.{ltZ};
 ghost use Rattle.step_sizes.specs.Steps.{largestStep};
 ghost use Rattle.step_sizes.specs.Levels.{signed, quantised, restored, outOfRange};
-ghost use Rattle.step_sizes.specs.Parts.{Divides, LimitsOf, restoredOrZero};
+ghost use Rattle.step_sizes.specs.Parts.{Divides, LimitsOf};
 use crate::division::Divisor;
 use crate::division::divide;
 
-fn magnitude(x: i32) -> u32
+pub fn magnitude(x: i32) -> u32
     ensures { λ r. ⌜ r ≡ natAbs x ⌝ }
 {
     if x < 0 {
@@ -38,30 +39,27 @@ pub fn quantise_number(x: i32, by: Divisor) -> i32
     with_sign(x, divide(magnitude(x) + by.step / 2, by))
 }
 
-// The least and the greatest level whose product with the step is in the signed 32-bit range.
+// The least and the greatest number of a range.
 pub struct Limits {
-    pub step: u32,
     pub least: i32,
     pub most: i32,
 }
 
+pub fn outside(x: i32, limits: Limits) -> bool
+    ensures { λ r. ⌜ r ≡ (ltZ x (limits .least) || ltZ (limits .most) x) ⌝ }
+{
+    (x < limits.least) | (limits.most < x)
+}
+
+// The levels whose product with the step is in the signed 32-bit range.
 pub fn limits_of(step: u32) -> Limits
     requires { ⌜ 0 < step ⌝ }
-    ensures { λ r. ⌜ (r .step ≡ step) × LimitsOf r ⌝ }
+    ensures { λ r. ⌜ LimitsOf step r ⌝ }
 {
     Limits {
-        step,
         least: (0 - ((2147483648 / step) as i64)) as i32,
         most: (2147483647 / step) as i32,
     }
-}
-
-// Whether the product of a level and the step is outside the range.
-pub fn leaves_range(level: i32, limits: Limits) -> bool
-    requires { ⌜ LimitsOf limits ⌝ }
-    ensures { λ r. ⌜ r ≡ outOfRange (restored (limits .step) level) ⌝ }
-{
-    (level < limits.least) | (limits.most < level)
 }
 
 pub fn restore_number(level: i32, step: u32) -> i32
@@ -70,16 +68,4 @@ pub fn restore_number(level: i32, step: u32) -> i32
     ensures { λ r. ⌜ r ≡ restored step level ⌝ }
 {
     level * (step as i32)
-}
-
-// The product of a level and the step, or 0 where it is outside the range.
-pub fn restore_or_zero(level: i32, limits: Limits) -> i32
-    requires { ⌜ LimitsOf limits ⌝ }
-    requires { ⌜ limits .step ≤ largestStep ⌝ }
-    ensures { λ r. ⌜ r ≡ restoredOrZero (limits .step) level ⌝ }
-{
-    if leaves_range(level, limits) {
-        return 0;
-    }
-    restore_number(level, limits.step)
 }

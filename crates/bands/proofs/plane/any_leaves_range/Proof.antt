@@ -1,6 +1,6 @@
 -- After i turns it is known whether one of the first i products is outside.
 use Prim.Native.Nat.{_-_, _≤_}
-use mathlib.Core.Path.{_≡_, refl}
+use mathlib.Core.Path.{_≡_, refl, _∙_}
 use mathlib.Core.List.{map}
 use native.Mathlib.Omega.{arith}
 use lib.ListN.{length, take}
@@ -30,7 +30,7 @@ loop-again c =
     let d = l .before in
     let a = d .before .before .args in
     let x = at (a .levels .now) (l .loop .i) in
-    let found = rw (d .limits-of .ensures .0, d .before .step .ensures, back {x = x} (c .before .leaves-range-arg .given)) at (c .leaves-range .ensures) in
+    let found = (rw (back {x = x} (c .before .outside-arg .given)) at (c .outside .ensures)) ∙ (rw (d .before .step .ensures) at (d .limits-of .ensures .outside x)) in
     (omega arith, one-looked (restored (stepOf (a .index))) (a .levels .now) (l .loop .i) (omega arith) (l .loop .inv .1) found)
 
 returns : tie.Need-returns Inv-loop μ-loop

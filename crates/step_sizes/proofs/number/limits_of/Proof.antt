@@ -1,6 +1,6 @@
 -- The quotients of the range's two ends fit 32 bits, and a product is outside where the level is beyond one of them.
 use Prim.Native.Nat.{_/_}
-use mathlib.Core.Path.{_≡_, refl}
+use mathlib.Core.Path.{_≡_}
 use native.Mathlib.Omega.{arith}
 use native.Mathlib.Nat.{div-le-self}
 use borrow.Author.Needs.{needs}
@@ -23,17 +23,14 @@ least-fits : (c : tie.Start) → SFits w32 (negℤ (pos (2147483648 / c .args .s
 least-fits c = negative-fits (2147483648 / c .args .step) (div-le-self 2147483648 (c .args .step))
 
 returns : tie.Need-returns
-returns c = (
-  refl,
-  record {
-    outside = λ level. rw (
-      least c,
-      toZ-ofZ w64 (negℤ (pos (2147483648 / c .args .step))) (widen (least-fits c)),
-      toZ-ofZ w32 (negℤ (pos (2147483648 / c .args .step))) (least-fits c),
-      toZ-pos w32 {n = 2147483647 / c .args .step} (omega (arith, div-le-self 2147483647 (c .args .step))),
-    ) (outside-limits (c .args .step) (c .pre) level);
-  },
-)
+returns c = record {
+  outside = λ level. rw (
+    least c,
+    toZ-ofZ w64 (negℤ (pos (2147483648 / c .args .step))) (widen (least-fits c)),
+    toZ-ofZ w32 (negℤ (pos (2147483648 / c .args .step))) (least-fits c),
+    toZ-pos w32 {n = 2147483647 / c .args .step} (omega (arith, div-le-self 2147483647 (c .args .step))),
+  ) (outside-limits (c .args .step) (c .pre) level);
+}
 
 pub limits-of-spec : {M : Type 1} → statement M
 limits-of-spec =

@@ -8,29 +8,26 @@ use mir.Syntax.{w32}
 use mir.ValLaws.{toZ-ofZ}
 use Rattle.lifting.proofs.Bits.{back}
 use Rattle.step_sizes.specs.Levels.{signed, quantised}
-use Rattle.step_sizes.proofs.Signs.{magnitude-most}
+use Rattle.step_sizes.proofs.Signs.{magnitude-of}
 use Rattle.step_sizes.proofs.Rounding.{level-most}
 use Rattle.step_sizes.proofs.number.quantise_number.Statement.{statement}
 use Rattle.step_sizes.proofs.number.quantise_number.Tie as tie
 
-size : (c : tie.After-magnitude) → c .magnitude .result ≡ natAbs (c .before .args .x)
-size c = let s = c .before in c .magnitude .ensures ∙ ap natAbs (toZ-ofZ w32 (s .args .x) (s .fits .x))
-
-most : (c : tie.After-magnitude) → c .magnitude .result ≤ 2147483648
-most c = let s = c .before in omega (arith, size c, magnitude-most (s .args .x) (s .fits .x))
+size : (c : tie.After-magnitude) → (c .magnitude .result ≡ natAbs (c .before .args .x)) × (c .magnitude .result ≤ 2147483648)
+size c = magnitude-of (c .before .fits .x) (c .magnitude .ensures)
 
 add-divide : tie.Need-add-divide
-add-divide c = record { fits = omega (arith, most (c .before), c .before .before .pre .small) }
+add-divide c = record { fits = omega (arith, size (c .before) .1, c .before .before .pre .small) }
 
 divide-requires : tie.Need-divide-requires
-divide-requires c κs = (c .before .before .pre, omega (arith, most (c .before)))
+divide-requires c κs = (c .before .before .pre, omega (arith, size (c .before) .1))
 
 -- the quotient
 level : (c : tie.After-divide) → let s = c .before .before .before in c .divide .result ≡ (natAbs (s .args .x) + s .args .by .step / 2) / s .args .by .step
 level c =
     let m = c .before .before in
     let step = m .before .args .by .step in
-    c .divide .ensures ∙ ap (λ (k : ℕ). (k + step / 2) / step) (size m)
+    c .divide .ensures ∙ ap (λ (k : ℕ). (k + step / 2) / step) (size m .0)
 
 with-sign-requires : tie.Need-with-sign-requires
 with-sign-requires c κs =
