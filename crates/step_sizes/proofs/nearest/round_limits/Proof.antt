@@ -22,7 +22,9 @@ turned e h = let k : 2147483648 - e ≡ suc (2147483647 - e) = omega arith in rw
 small : (c : tie.After-excess2) → (c .before .excess .result < 2147483648) × (c .excess2 .result ≤ 2147483647)
 small c =
     let s = c .before .before in
-    (omega (arith, c .before .excess .ensures, mod-lt 2147483648 (s .pre .0), s .pre .1), omega (arith, c .excess2 .ensures, mod-lt 2147483647 (s .pre .0), s .pre .1))
+    let rest = mod-lt 2147483648 (s .pre .0) in
+    let rest-above = mod-lt 2147483647 (s .pre .0) in
+    (omega (arith, c .before .excess .ensures, rest, rest-above, s .pre .1), omega (arith, c .excess2 .ensures, rest, rest-above, s .pre .1))
 
 least : (c : tie.After-excess2) → toZ w64 (c .before .excess .result) -ℤ pos 2147483648 ≡ negℤ (pos (top 2147483648 (c .before .before .args .step)))
 least c =
