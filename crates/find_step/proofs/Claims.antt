@@ -5,7 +5,7 @@ use mathlib.Core.Bool.{Bool, true}
 use Rattle.picture.specs.Modes.{modeOf}
 use Rattle.find_step.specs.FindStep.{Answer}
 use Rattle.find_step.specs.Claims.{FindStepClaim}
-use Rattle.find_step.proofs.Tries.{zero-passes, samples-same}
+use Rattle.tries.proofs.Tries.{zero-passes, samples-same}
 
 answer-passes : (test : ℕ → Bool) → test 0 ≡ true → (index : ℕ) → Answer test index → test index ≡ true
 answer-passes test z zero a = z

@@ -8,7 +8,8 @@ use Rattle.lifting.specs.Row.{Row}
 use Rattle.picture.specs.declared.size.Size.{Size}
 use Rattle.picture.specs.Sizes.{macroblocks}
 use Rattle.picture.specs.Claims.{Shape}
-use Rattle.find_step.specs.FindStep.{passes, triedSamples, Answer}
+use Rattle.tries.specs.Tries.{passes, triedSamples}
+use Rattle.find_step.specs.FindStep.{Answer}
 
 pub record Kept (mode : ℕ) (size : Size) (samples : List ℤ) (tolerance : ℕ) : Type 0 where
   -- index 0 always passes, and leaves the samples as they are

@@ -5,18 +5,16 @@ ghost use lib.ListN.{length};
 ghost use Rattle.picture.specs.Sizes.{Sized, macroblocks};
 ghost use Rattle.picture.specs.Planes.{Lengths, planes};
 ghost use Rattle.picture.specs.Numbers.{firstOf, settled};
-ghost use Rattle.find_step.specs.FindStep.{triedPlanesBy, triedSamplesBy, passesBy, triedPlanes, triedSamples, passes, Answer, IndexBeside, lengthChecks, findNumber};
-use crate::attempt::take_zero;
-use crate::attempt::try_index;
+ghost use Rattle.tries.specs.Tries.{triedPlanesBy, triedSamplesBy, passesBy, triedPlanes, triedSamples, passes};
+ghost use Rattle.find_step.specs.FindStep.{Answer, IndexBeside, lengthChecks, findNumber};
 use picture::checks::Checked;
 use picture::checks::check_planes;
 use picture::checks::check_shape;
 use picture::counts::Macroblocks;
 use picture::mode::Mode;
 use picture::size::Size;
-
-pub mod attempt; // attempt.rt: one try of an index
-pub mod difference; // difference.rt: how far two pictures are apart
+use tries::take_zero;
+use tries::try_index;
 
 // The number, and, where that is 0, the index that answers.
 #[repr(C)]

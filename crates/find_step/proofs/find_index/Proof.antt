@@ -6,7 +6,7 @@ use native.Mathlib.Omega.{arith}
 use borrow.Author.Needs.{needs}
 use lib.ListN.{length}
 use Rattle.picture.specs.Planes.{planes}
-use Rattle.find_step.specs.FindStep.{passesBy}
+use Rattle.tries.specs.Tries.{passesBy}
 use Rattle.find_step.proofs.Search.{Searching, none-above-255, one-less, answers, none-answers}
 use Rattle.find_step.proofs.find_index.Statement.{statement}
 use Rattle.find_step.proofs.find_index.Tie as tie

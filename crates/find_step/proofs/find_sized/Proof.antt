@@ -6,7 +6,8 @@ use Rattle.picture.specs.Sizes.{macroblocks}
 use Rattle.picture.specs.Planes.{Planes, planes}
 use Rattle.picture.specs.Numbers.{firstOf}
 use Rattle.picture.proofs.CheckLaws.{counted}
-use Rattle.find_step.specs.FindStep.{triedPlanesBy, triedSamplesBy, passesBy, lengthChecks}
+use Rattle.tries.specs.Tries.{triedPlanesBy, triedSamplesBy, passesBy}
+use Rattle.find_step.specs.FindStep.{lengthChecks}
 use Rattle.find_step.proofs.Checks.{lengths-fit, refused-all}
 use Rattle.find_step.proofs.find_sized.Statement.{statement}
 use Rattle.find_step.proofs.find_sized.Tie as tie

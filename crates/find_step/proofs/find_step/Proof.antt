@@ -10,7 +10,8 @@ use Rattle.picture.specs.Planes.{Planes, planes}
 use Rattle.picture.specs.Numbers.{firstOf, shapeChecks, settled}
 use Rattle.picture.proofs.NumberLaws.{refused-first}
 use Rattle.picture.proofs.CheckLaws.{refused, ready, ready-number, ready-sized}
-use Rattle.find_step.specs.FindStep.{triedPlanes, triedSamples, passes, triedPlanesBy, triedSamplesBy, passesBy, IndexBeside, lengthChecks, findNumber}
+use Rattle.tries.specs.Tries.{triedPlanes, triedSamples, passes, triedPlanesBy, triedSamplesBy, passesBy}
+use Rattle.find_step.specs.FindStep.{IndexBeside, lengthChecks, findNumber}
 use Rattle.find_step.proofs.Checks.{refused-all}
 use Rattle.find_step.proofs.find_step.Statement.{statement}
 use Rattle.find_step.proofs.find_step.Tie as tie
