@@ -5,7 +5,7 @@ ghost use Prim.Native.Nat.{_^_, _<_};
 ghost use lib.Signed.{shrZ, mag};
 ghost use Rattle.lifting.specs.Wrap.{wrap};
 
-// s reduced into the range, for a sum or a difference of two numbers in it. It compiles to a plain truncation.
+// s reduced into the range, for a sum or a difference of two numbers in it, or another number that is no larger. It compiles to a plain truncation.
 pub fn reduce(s: i64) -> i32
     requires { ⌜ mag s < 6442450944 ⌝ }
     ensures { λ r. ⌜ r ≡ wrap s ⌝ }
