@@ -161,7 +161,7 @@ uint32_t lapped_restore(uint32_t mode, lapped_size size, lapped_steps steps,
  * 4294967295), and no product leaves the range. The answer is an index from 2 to 255 that passes,
  * any of them, or 0, with which nothing changes, where none of those passes. Then the planes hold
  * the restored coefficients of that index, and second holds their samples. Each index that is tried
- * takes about the time of the four calls; there are up to 255 tries.
+ * takes about the time of the four calls; there are up to 254 tries.
  * Checks 1, 2, 3, then 7 of the samples, then 7 of the second ones, then 4, 5, 6. */
 lapped_found lapped_find_step(uint32_t mode, lapped_size size, uint32_t tolerance,
                               const int32_t *samples, size_t samples_len,

@@ -56,7 +56,7 @@ impl Found {
 /// exact; at most it is `u32::MAX`. The answer is an index from 2 to 255 that passes, any of them, or
 /// 0, which changes nothing, where none of those passes. Afterwards `planes` has the restored
 /// coefficients of that index, and `second` has their samples. Each index that is tried takes about
-/// the time of the four calls; there are up to 255 tries.
+/// the time of the four calls; there are up to 254 tries.
 ///
 /// ```
 /// use lapped::{find_step, step, Mode, Planes, Size};

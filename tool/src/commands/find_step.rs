@@ -12,7 +12,7 @@ pub const EXAMPLE: &str = "lapped find-step examples/disc.planes -t 5";
 ///
 /// An index passes if the samples of a plane file, taken to levels and back by its step, come back
 /// with no sample further off than the tolerance. One from 2 to 255 that passes is told or, where
-/// none does, 0, which changes nothing. Up to 255 indices are tried.
+/// none does, 0, which changes nothing. Up to 254 indices are tried.
 #[derive(clap::Args)]
 pub struct Args {
     /// A plane file of coefficients; `-` is standard input
