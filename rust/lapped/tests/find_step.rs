@@ -87,19 +87,27 @@ impl Picture {
 const TOLERANCES: [u32; 9] =
     [0, 1, 5, 300, 1 << 20, (1 << 31) - 1, 1 << 31, u32::MAX - (1 << 20), u32::MAX];
 
-#[test]
-fn any_samples() {
-    let mut random = Random::new(121);
+/// Pictures of all small sizes, in all modes, with samples of every kind.
+fn small_pictures(random: &mut Random) -> Vec<Picture> {
+    let mut pictures = Vec::new();
     for (width, height) in SMALL {
         let size = size(width, height);
         for mode in Mode::ALL {
             for values in Values::ALL {
                 let samples = random.numbers(size.samples(), values);
-                let picture = Picture { mode, size, samples };
-                for tolerance in TOLERANCES {
-                    picture.find(tolerance, &mut random);
-                }
+                pictures.push(Picture { mode, size, samples });
             }
+        }
+    }
+    pictures
+}
+
+#[test]
+fn any_samples() {
+    let mut random = Random::new(121);
+    for picture in small_pictures(&mut random) {
+        for tolerance in TOLERANCES {
+            picture.find(tolerance, &mut random);
         }
     }
 }
@@ -129,18 +137,11 @@ fn multiples_of_a_step() {
 #[test]
 fn least_tolerance() {
     let mut random = Random::new(123);
-    for (width, height) in SMALL {
-        let size = size(width, height);
-        for mode in Mode::ALL {
-            for values in Values::ALL {
-                let samples = random.numbers(size.samples(), values);
-                let picture = Picture { mode, size, samples };
-                let least = picture.least_difference();
-                assert_ne!(picture.find(least, &mut random), 0, "{mode:?}, {size:?}");
-                if least > 0 {
-                    assert_eq!(picture.find(least - 1, &mut random), 0, "{mode:?}, {size:?}");
-                }
-            }
+    for picture in small_pictures(&mut random) {
+        let (mode, size, least) = (picture.mode, picture.size, picture.least_difference());
+        assert_ne!(picture.find(least, &mut random), 0, "{mode:?}, {size:?}");
+        if least > 0 {
+            assert_eq!(picture.find(least - 1, &mut random), 0, "{mode:?}, {size:?}");
         }
     }
 }
