@@ -1,9 +1,11 @@
--- A line of uses along a row, or down a column, is the level's filters of that row or column; and the filters one stage after another.
+-- Where rows and lines of squares lie. A line of uses along a row, or down a column, is the level's filters of that row or column; and the filters one
+-- stage after another.
 use Prim.Native.Nat.{ℕ, zero, suc, _+_, _-_, _*_, _≤_, _<_}
 use mathlib.Core.Path.{_≡_, refl, ap}
 use mathlib.Core.List.{List}
 use native.Mathlib.Omega.{arith}
-use native.Mathlib.Nat.{mul-le-mul-right}
+use lib.Arith.{digits-lt}
+use lib.ListN.{length}
 use lib.IntN.{ℤ}
 use Rattle.lifting.specs.Program.{Program, end, apply, FourFilter, undo, each, _then_}
 use Rattle.lifting.proofs.Compose.{undo-then}
@@ -11,33 +13,41 @@ use Rattle.figures.specs.Figures.{fourFilter}
 use Rattle.picture.specs.declared.size.Size.{Size}
 use Rattle.picture.specs.Level.{fourFilterAt, squareFilters, rowFilters, columnFilters, alongEdges, filters}
 use Rattle.picture.specs.Sizes.{Sized}
+use Rattle.picture.proofs.CheckLaws.{few-macroblocks}
+use Rattle.grid.proofs.Rows.{row-above}
+use Rattle.forward_one_grid.specs.Held.{Held}
 use Rattle.forward_one_grid.proofs.Lines.{row-line, column-line}
 use Rattle.forward_one_filters.specs.Edges.{filterAcross, line, edges}
+
+-- ---- squares
+
+-- square t, in row j and column i, and the n squares beside it lie in the picture, which is small
+pub beside-few : {size : Size} {dc low : List ℤ} (j i n : ℕ) {t : ℕ} → Held size dc low → j + 1 < size .height .0 → i + n < size .width .0 → t ≡ j * size .width .0 + i → t + n < 216825
+beside-few j i n h k l e = omega (arith, digits-lt k l, few-macroblocks (h .sized))
+
+-- one use back on a line
+pub step-back : (from pace i : ℕ) {t : ℕ} → 0 < i → t ≡ from + pace * i → (pace ≤ t) × (t - pace ≡ from + pace * (i - 1))
+step-back from pace i h e = let up = row-above i pace h in (omega arith, omega arith)
+
+-- the bottom row of squares
+pub bottom-row : {size : Size} {dc low : List ℤ} → Held size dc low → (size .width .0 ≤ length dc) × (length dc - size .width .0 ≡ (size .height .0 - 1) * size .width .0)
+bottom-row {size} h = let up = row-above (size .height .0) (size .width .0) (h .sized .tall) in (omega (arith, h .of-dc), omega (arith, h .of-dc))
+
+-- ---- lines and stages
 
 pub each-same : (n : ℕ) (f g : ℕ → Program) → ((i : ℕ) → i < n → f i ≡ g i) → each n f ≡ each n g
 unfolding each
 each-same zero f g h = refl
 each-same (suc n) f g h = rw (each-same n f g (λ i l. h i (omega arith)), h n (omega arith))
 
--- the squares of a line lie in the picture
-pub along : (pace i n : ℕ) → i < n → pace * i + pace ≤ pace * n
-along pace i n h = omega (arith, mul-le-mul-right {m = i + 1} {n = n} pace (omega arith))
-
 four-same : {a b c d a' b' c' d' : Program} → a ≡ a' → b ≡ b' → c ≡ c' → d ≡ d' → (a then b then c then d) ≡ (a' then b' then c' then d')
 four-same e f g h = rw (e, f, g, h)
 
--- the last square of a column, and of a picture
-pub last-row : (W H : ℕ) → 0 < H → W * (H - 1) + W ≡ W * H
-last-row W H h = omega (arith, ap (λ (k : ℕ). W * k) one-more)
-  where
-    one-more : H - 1 + 1 ≡ H
-    one-more = omega arith
-
 -- four lines, one after another
-pub edges-parts : (size : Size) (last pace side step n : ℕ) (v : List ℤ) {v1 v2 v3 v4 : List ℤ} → v1 ≡ undo (line size last pace (3 * side) step n) v → v2 ≡ undo (line size last pace (2 * side) step n) v1
-    → v3 ≡ undo (line size 0 pace side step n) v2 → v4 ≡ undo (line size 0 pace 0 step n) v3 → v4 ≡ undo (edges size last pace side step n) v
+pub edges-parts : (size : Size) (far pace side step n : ℕ) (v : List ℤ) {v1 v2 v3 v4 : List ℤ} → v1 ≡ undo (line size far pace (3 * side) step n) v → v2 ≡ undo (line size far pace (2 * side) step n) v1
+    → v3 ≡ undo (line size 0 pace side step n) v2 → v4 ≡ undo (line size 0 pace 0 step n) v3 → v4 ≡ undo (edges size far pace side step n) v
 unfolding edges
-edges-parts size last pace side step n v e f g h = rw (h, g, f, e) (simp undo-then)
+edges-parts size far pace side step n v e f g h = rw (h, g, f, e) (simp undo-then)
 
 module _ (size : Size) (sized : Sized size) where
   abbrev W : ℕ
@@ -56,12 +66,12 @@ module _ (size : Size) (sized : Sized size) where
   column-is from l i c column e k f m g =
       rw (f, g) (each-same (H - 1) _ _ (λ j h. ap (λ ps. apply FourFilter fourFilter ps end) (column-line size (from + W * j) (from + W * j + W) j i c m (omega arith) refl k)))
 
-  rows-are : edges size ((H - 1) * W) 1 4 1 (W - 1) ≡ alongEdges H (rowFilters W)
+  rows-are : (bottom : ℕ) → bottom ≡ (H - 1) * W → edges size bottom 1 4 1 (W - 1) ≡ alongEdges H (rowFilters W)
   unfolding edges
-  rows-are =
+  rows-are bottom e =
       let h = sized .tall in
       four-same (row-is 0 0 0 0 0 (omega arith) refl refl) (row-is 0 4 0 1 1 (omega arith) refl refl)
-      (row-is ((H - 1) * W) (2 * 4) (H - 1) 2 (4 * H - 2) refl refl (omega arith)) (row-is ((H - 1) * W) (3 * 4) (H - 1) 3 (4 * H - 1) refl refl (omega arith))
+      (row-is bottom (2 * 4) (H - 1) 2 (4 * H - 2) e refl (omega arith)) (row-is bottom (3 * 4) (H - 1) 3 (4 * H - 1) e refl (omega arith))
 
   columns-are : edges size (W - 1) W 1 4 (H - 1) ≡ alongEdges W (columnFilters W H)
   unfolding edges
@@ -71,8 +81,8 @@ module _ (size : Size) (sized : Sized size) where
       (column-is (W - 1) (2 * 1) (W - 1) 2 (4 * W - 2) refl (omega arith) refl (omega arith) (omega arith))
       (column-is (W - 1) (3 * 1) (W - 1) 3 (4 * W - 1) refl (omega arith) refl (omega arith) (omega arith))
 
-  -- the filters, one stage after another
-  pub filters-parts : (v : List ℤ) {v1 v2 v3 : List ℤ} → v1 ≡ undo (edges size (W - 1) W 1 4 (H - 1)) v → v2 ≡ undo (edges size ((H - 1) * W) 1 4 1 (W - 1)) v1
+  -- the filters, one stage after another; the bottom row of squares begins with square `bottom`
+  pub filters-parts : {bottom : ℕ} → bottom ≡ (H - 1) * W → (v : List ℤ) {v1 v2 v3 : List ℤ} → v1 ≡ undo (edges size (W - 1) W 1 4 (H - 1)) v → v2 ≡ undo (edges size bottom 1 4 1 (W - 1)) v1
       → v3 ≡ undo (squareFilters W H) v2 → v3 ≡ undo (filters W H) v
   unfolding filters
-  filters-parts v e f g = rw (g, f, e, rows-are, columns-are) (simp undo-then)
+  filters-parts {bottom} b v e f g = rw (g, f, e, rows-are bottom b, columns-are) (simp undo-then)

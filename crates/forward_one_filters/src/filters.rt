@@ -12,63 +12,68 @@ use crate::windows::undo_group;
 use forward_one_grid::group;
 use picture::size::Size;
 
-// n uses across edges, along a row or down a column: the squares from `from` on, each `pace` after the one before, on the line of coefficient l.
+// n uses across edges, along a row or down a column: the squares from `from` to `last`, each `pace` after the one before, on the line of coefficient l.
 fn undo_line(
     size: Size,
     dc: &mut [i32],
     low: &mut [i32],
     from: usize,
+    last: usize,
     pace: usize,
     l: usize,
     step: usize,
     n: usize,
 )
     requires { ⌜ Held size (now dc) (now low) ⌝ }
-    requires { ⌜ (from + pace * n < macroblocks size) × (l + 3 * step < 16) ⌝ }
+    requires { ⌜ (last ≡ from + pace * n) × (last < macroblocks size) × (l + 3 * step < 16) ⌝ }
     ensures { λ r. ⌜ numbers size (now (dc .exit)) (now (low .exit)) ≡
         undo (line size from pace l step n) (numbers size (now (dc .entry)) (now (low .entry))) ⌝ }
 {
+    let mut t = last;
     let mut i = n;
     while i > 0 {
         i -= 1;
-        let t = from + pace * i;
+        t -= pace;
         undo_four_filter(size, dc, low, t, t + pace, l, step);
     }
 }
 
-// The two lines at the far edge, whose squares start at `last`, and the two at the near one: rows or columns, as `side` and `step` say.
+// The two lines at the far edge, whose squares start at `far` and end with the grid's last, and the two at the near one, whose squares end at `near`: rows
+// or columns, as `side` and `step` say.
 fn undo_edges(
     size: Size,
     dc: &mut [i32],
     low: &mut [i32],
-    last: usize,
+    far: usize,
+    near: usize,
     pace: usize,
     side: usize,
     step: usize,
     n: usize,
 )
     requires { ⌜ Held size (now dc) (now low) ⌝ }
-    requires { ⌜ (last + pace * n < macroblocks size) × (3 * side + 3 * step < 16) ⌝ }
+    requires { ⌜ (far + pace * n + 1 ≡ macroblocks size) × (near ≡ pace * n) × (3 * side + 3 * step < 16) ⌝ }
     ensures { λ r. ⌜ numbers size (now (dc .exit)) (now (low .exit)) ≡
-        undo (edges size last pace side step n) (numbers size (now (dc .entry)) (now (low .entry))) ⌝ }
+        undo (edges size far pace side step n) (numbers size (now (dc .entry)) (now (low .entry))) ⌝ }
 {
-    undo_line(size, dc, low, last, pace, 3 * side, step, n);
-    undo_line(size, dc, low, last, pace, 2 * side, step, n);
-    undo_line(size, dc, low, 0, pace, side, step, n);
-    undo_line(size, dc, low, 0, pace, 0, step, n);
+    let last = dc.len() - 1;
+    undo_line(size, dc, low, far, last, pace, 3 * side, step, n);
+    undo_line(size, dc, low, far, last, pace, 2 * side, step, n);
+    undo_line(size, dc, low, 0, near, pace, side, step, n);
+    undo_line(size, dc, low, 0, near, pace, 0, step, n);
 }
 
-// The square filters between the squares in rows j and j + 1.
-fn undo_squares_across(size: Size, dc: &mut [i32], low: &mut [i32], j: usize)
+// The square filters between the squares in rows j, which begins with square t, and j + 1.
+fn undo_squares_across(size: Size, dc: &mut [i32], low: &mut [i32], j: usize, t: usize)
     requires { ⌜ Held size (now dc) (now low) ⌝ }
-    requires { ⌜ j + 1 < size .height .0 ⌝ }
+    requires { ⌜ (j + 1 < size .height .0) × (t ≡ j * size .width .0) ⌝ }
     ensures { λ r. ⌜ numbers size (now (dc .exit)) (now (low .exit)) ≡ undo (filtersOfRow size j) (numbers size (now (dc .entry)) (now (low .entry))) ⌝ }
 {
     let mut i = (size.width.0 as usize) - 1;
     while i > 0 {
         let n = group(i);
         i -= n;
-        undo_group(size, dc, low, j, i, n);
+        undo_group(size, dc, low, j, i, t + i, n);
     }
 }
 
@@ -76,10 +81,13 @@ fn undo_square_filters(size: Size, dc: &mut [i32], low: &mut [i32])
     requires { ⌜ Held size (now dc) (now low) ⌝ }
     ensures { λ r. ⌜ numbers size (now (dc .exit)) (now (low .exit)) ≡ undo (over size squareFilters) (numbers size (now (dc .entry)) (now (low .entry))) ⌝ }
 {
+    let width = size.width.0 as usize;
+    let mut t = dc.len() - width;
     let mut j = (size.height.0 as usize) - 1;
     while j > 0 {
         j -= 1;
-        undo_squares_across(size, dc, low, j);
+        t -= width;
+        undo_squares_across(size, dc, low, j, t);
     }
 }
 
@@ -90,7 +98,8 @@ pub fn undo_filters(size: Size, dc: &mut [i32], low: &mut [i32])
 {
     let width = size.width.0 as usize;
     let height = size.height.0 as usize;
-    undo_edges(size, dc, low, width - 1, width, 1, 4, height - 1);
-    undo_edges(size, dc, low, (height - 1) * width, 1, 4, 1, width - 1);
+    let bottom = dc.len() - width;
+    undo_edges(size, dc, low, width - 1, bottom, width, 1, 4, height - 1);
+    undo_edges(size, dc, low, bottom, width - 1, 1, 4, 1, width - 1);
     undo_square_filters(size, dc, low);
 }

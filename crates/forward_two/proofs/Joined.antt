@@ -24,7 +24,7 @@ use Rattle.forward_two_edges.specs.Unfiltered.{unfiltered}
 use Rattle.forward_two_edges.specs.Strip.{Holds, Kept, Rows}
 use Rattle.forward_two_edges.proofs.Strips.{holds-kept, holds-under, holds-beside, holds-as}
 use Rattle.forward_two_parked.specs.Parked.{placeIn, Fetched, Parked}
-use Rattle.forward_two.specs.Strips.{Carried, Through, Lowered}
+use Rattle.forward_two.specs.Strips.{Carried, Through, Planes, Lowered}
 
 length-sixteen : (w i : ℕ) (v : List ℤ) → length (get (square w i) v) ≡ 16
 unfolding get square
@@ -86,9 +86,9 @@ module _ (size : Size) (samples : List ℤ) (wide : 0 < size .width .0) (r c n :
 
   -- ---- the rows above
 
-  pub rows-fetched : (blocks : ℕ → List ℤ) {old new : List ℤ} → 0 < r → n ≤ 4 → Through size samples (r * W + c) blocks → Fetched (r * W + c) n blocks new → Kept 0 2 0 (16 * n) old new
+  pub rows-fetched : (blocks : ℕ → List ℤ) (m : ℕ) {old new : List ℤ} → m ≡ r * W + c → 0 < r → n ≤ 4 → Through size samples (r * W + c) blocks → Fetched m n blocks new → Kept 0 2 0 (16 * n) old new
       → Holds size samples r c 2 18 0 (16 * n + 2) old → Holds size samples r c 0 18 0 (16 * n) new × Holds size samples r c 2 18 0 (16 * n + 2) new
-  rows-fetched blocks {old} {new} lower few through f kept d =
+  rows-fetched blocks m {old} {new} place lower few through f kept d =
       let rest = holds-kept r c 2 18 0 (16 * n + 2) 0 2 0 (16 * n) (omega arith) (λ y x a b e g h i k l. absurd (omega arith)) d kept in
       (holds-under r c 0 2 18 0 (16 * n) (record { there = above }) (holds-as r c 2 18 0 (16 * n) (omega arith) (omega arith) (omega arith) (omega arith) rest), rest)
     where
@@ -99,23 +99,23 @@ module _ (size : Size) (samples : List ℤ) (wide : 0 < size .width .0) (r c n :
       inside b h = let e : (r + 1) * W ≤ H * W = mul-le-mul-right W (omega arith) in omega (arith, rw (add-mul r 1 W) at e)
 
       here : (t j b k : ℕ) → t / 16 ≡ r * W + c + b → t % 16 ≡ k → k < 4 → b < n → j < 8 → at (blocks t) j ≡ at (squareIn W U t) j
-      here t j b k m upper l h g = through .parked t j (omega arith) (omega arith) (omega (arith, row)) (omega (arith, inside b h)) (omega arith) g
+      here t j b k e upper l h g = through .parked t j (omega arith) (omega arith) (omega (arith, row)) (omega (arith, inside b h)) (omega arith) g
 
       above : (y x : ℕ) → 0 ≤ y → y < 2 → 0 ≤ x → x < 16 * n → 16 * r + y < 16 * H → 16 * c + x < 16 * W → at new (72 * y + x) ≡ at U (cell (4 * W) (16 * r + y) (16 * c + x))
       above y x p q s l u v =
           let b = x / 16 in
           let k = x % 16 / 4 in
           let j = 4 * y + x % 4 in
-          let t = 16 * (r * W + c + b) + k in
+          let t = 16 * (m + b) + k in
           let low : b < n = omega arith in
           let few : k < 4 = omega arith in
           let short : j < 8 = omega arith in
-          let m : t / 16 ≡ r * W + c + b = omega arith in
+          let e : t / 16 ≡ r * W + c + b = omega arith in
           let upper : t % 16 ≡ k = omega arith in
           let at-block = block-place c y x (t % 16) upper in
           ap (at new) (strip-place y x) ∙ f .own b k j low few short
-          ∙ here t j b k m upper few low short
-          ∙ square-in-at wide r (c + b) (omega (arith, low)) U t j (m ∙ omega arith) (omega (arith, short))
+          ∙ here t j b k e upper few low short
+          ∙ square-in-at wide r (c + b) (omega (arith, low)) U t j (e ∙ omega arith) (omega (arith, short))
           ∙ ap₂ (λ (a d : ℕ). at U (cell (4 * W) (16 * r + a) d)) (at-block .0) (at-block .1)
 
   -- ---- the columns beside
@@ -128,11 +128,11 @@ module _ (size : Size) (samples : List ℤ) (wide : 0 < size .width .0) (r c n :
 
   -- ---- a group: its own blocks, and its rows for the row of macroblocks below
 
-  pub group-through : (blocks mid new : ℕ → List ℤ) {strip : List ℤ} → n ≤ 4 → Holds size samples r c 0 18 0 (16 * n) strip → Through size samples (r * W + c) blocks
-      → ((t b : ℕ) → b < n → t / 16 ≡ r * W + c + b → mid t ≡ undoneIn 72 (16 * b) strip (t % 16)) → ((t : ℕ) → (Among (r * W + c) (r * W + c + n) t → ⊥) → mid t ≡ blocks t)
+  pub group-through : (blocks mid new : ℕ → List ℤ) (m : ℕ) {strip : List ℤ} → m ≡ r * W + c → n ≤ 4 → Holds size samples r c 0 18 0 (16 * n) strip → Through size samples (r * W + c) blocks
+      → ((t b : ℕ) → b < n → t / 16 ≡ m + b → mid t ≡ undoneIn 72 (16 * b) strip (t % 16)) → ((t : ℕ) → (Among m (m + n) t → ⊥) → mid t ≡ blocks t)
       → ((t b j : ℕ) → b < n → t / 16 ≡ r * W + c + W + b → t / 16 < macroblocks size → t % 16 < 4 → j < 8 → at (new t) j ≡ at strip (placeIn 16 b (t % 16) j))
       → ((t : ℕ) → (Among (r * W + c + W) (r * W + c + W + n) t → ⊥) → new t ≡ mid t) → Through size samples (r * W + c + n) new
-  group-through blocks mid new {strip} few d through own others parked kept = record {
+  group-through blocks mid new m {strip} place few d through own others parked kept = record {
     done = λ t h. kept t (λ a. omega (arith, a, h)) ∙ by-cases (decLt (t / 16) (r * W + c))
         (λ l. others t (λ a. omega (arith, a, l)) ∙ through .done t l)
         (λ l. let b = t / 16 - (r * W + c) in own t b (omega (arith, l)) (omega (arith, l)) ∙ strip-square d t b (omega (arith, l)) (omega (arith, l)));
@@ -211,11 +211,13 @@ module _ {size : Size} {samples : List ℤ} (r c n first : ℕ) (some : 0 < n) (
 
 -- ---- a group's macroblocks, and those below them, are macroblocks of the picture
 
-pub group-inside : (W H r c n : ℕ) → r < H → c + n ≤ W → r * W + c + n ≤ W * H
-group-inside W H r c n h k = let e : (r + 1) * W ≤ H * W = mul-le-mul-right W (omega arith) in omega (arith, rw (add-mul r 1 W) at e)
-
-pub group-below : (W H r c n : ℕ) → r + 1 < H → c + n ≤ W → r * W + c + W + n ≤ W * H
-group-below W H r c n h k = let e : (r + 2) * W ≤ H * W = mul-le-mul-right W (omega arith) in omega (arith, rw (add-mul r 2 W) at e)
+pub group-inside : (size : Size) (r c n m : ℕ) {dc low high : List ℤ} → m ≡ r * size .width .0 + c → r < size .height .0 → c + n ≤ size .width .0 → Planes size dc low high
+    → (m + n ≤ length dc) × (15 * (m + n) ≤ length low) × (240 * (m + n) ≤ length high)
+group-inside size r c n m place h k p =
+    let W = size .width .0 in
+    let e : (r + 1) * W ≤ size .height .0 * W = mul-le-mul-right W (omega arith) in
+    let all : m + n ≤ macroblocks size = omega (arith, rw (add-mul r 1 W) at e) in
+    (omega (arith, all, p .of-dc), omega (arith, all, p .of-low), omega (arith, all, p .of-high))
 
 -- ---- which of two cases
 

@@ -6,7 +6,7 @@ ghost use Prim.Native.Nat.{ℕ, _+_, _*_, _/_, _%_, _<_, _≤_};
 ghost use mathlib.Core.Logic.{_⊎_};
 ghost use lib.ListN.{length};
 ghost use Rattle.lifting.specs.Program.{undo, at as number};
-ghost use Rattle.picture.specs.Level.{level, cores as coresOf};
+ghost use Rattle.picture.specs.Level.{cell, level, cores as coresOf};
 ghost use Rattle.picture.specs.Planes.{firstGrid, secondGrid};
 ghost use Rattle.picture.specs.Sizes.{macroblocks, Sized};
 ghost use Rattle.forward_two_cores.specs.Blocks.{blockOf, undoneIn, Among};
@@ -40,18 +40,20 @@ fn left(
     r: usize,
     c: usize,
     samples: &[i32],
+    at: usize,
     first: usize,
     down: usize,
     strip: &mut [i32],
 )
     requires { ⌜ Given size r c (now samples) (now strip) ⌝ }
+    requires { ⌜ at ≡ cell (4 * size .width .0) (16 * r) (16 * c) ⌝ }
     requires { ⌜ Rows size r first down ⌝ }
     requires { ⌜ (0 < c → Carried size (now samples) r c first (now strip)) ⌝ }
     ensures { λ u. ⌜ Holds size (now (samples .entry)) r c first 18 0 2 (now (strip .exit)) ⌝ }
     ensures { λ u. ⌜ length (now (strip .exit)) ≡ 1296 ⌝ }
 {
     if c == 0 {
-        edge_columns(size, r, c, samples, first, down, strip, 0);
+        edge_columns(size, r, c, samples, at, first, down, strip, 0);
         return;
     }
     carry(strip);
@@ -63,20 +65,24 @@ fn middle(
     r: usize,
     c: usize,
     samples: &[i32],
+    at: usize,
     first: usize,
     down: usize,
     n: usize,
     strip: &mut [i32],
 )
     requires { ⌜ Given size r c (now samples) (now strip) ⌝ }
+    requires { ⌜ at ≡ cell (4 * size .width .0) (16 * r) (16 * c) ⌝ }
     requires { ⌜ Rows size r first down ⌝ }
     requires { ⌜ (n ≤ 16) × (4 * c + n < 4 * size .width .0) ⌝ }
     ensures { λ u. ⌜ Holds size (now (samples .entry)) r c first 18 2 (4 * n + 2) (now (strip .exit)) ⌝ }
     ensures { λ u. ⌜ Kept first 18 2 72 (now (strip .entry)) (now (strip .exit)) ⌝ }
 {
-    edge_rows(size, r, c, samples, first, 2, n, strip);
-    windows(size, r, c, samples, down, n, strip);
-    edge_rows(size, r, c, samples, 4 * down + 2, 16, n, strip);
+    let across = size.width.0 as usize;
+    let w = 16 * across;
+    edge_rows(size, r, c, samples, at, first, 2, n, strip);
+    let last = windows(size, r, c, samples, at + w + w, down, n, strip);
+    edge_rows(size, r, c, samples, last, 4 * down + 2, 16, n, strip);
 }
 
 // All columns of n macroblocks and the two after them, from row `first` on.
@@ -86,25 +92,27 @@ fn fill(
     c: usize,
     n: usize,
     samples: &[i32],
+    at: usize,
     first: usize,
     down: usize,
     strip: &mut [i32],
 )
     requires { ⌜ Given size r c (now samples) (now strip) ⌝ }
+    requires { ⌜ at ≡ cell (4 * size .width .0) (16 * r) (16 * c) ⌝ }
     requires { ⌜ Rows size r first down ⌝ }
     requires { ⌜ (0 < c → Carried size (now samples) r c first (now strip)) ⌝ }
     requires { ⌜ (0 < n) × (n ≤ 4) × (c + n ≤ size .width .0) ⌝ }
     ensures { λ u. ⌜ Holds size (now (samples .entry)) r c first 18 0 (16 * n + 2) (now (strip .exit)) ⌝ }
     ensures { λ u. ⌜ length (now (strip .exit)) ≡ 1296 ⌝ }
 {
-    left(size, r, c, samples, first, down, strip);
+    left(size, r, c, samples, at, first, down, strip);
     let across = size.width.0;
     if c + n == across as usize {
-        middle(size, r, c, samples, first, down, 4 * n - 1, strip);
-        edge_columns(size, r, c, samples, first, down, strip, 16 * n - 2);
+        middle(size, r, c, samples, at, first, down, 4 * n - 1, strip);
+        edge_columns(size, r, c, samples, at, first, down, strip, 16 * n - 2);
         return;
     }
-    middle(size, r, c, samples, first, down, 4 * n, strip);
+    middle(size, r, c, samples, at, first, down, 4 * n, strip);
 }
 
 // The cores of the strip's n macroblocks, of which the first is macroblock m.
@@ -129,6 +137,7 @@ fn upper(
     dc: &[i32],
     low: &[i32],
     high: &[i32],
+    m: usize,
     first: usize,
     strip: &mut [i32],
 )
@@ -136,6 +145,7 @@ fn upper(
     requires { ⌜ Planes size (now dc) (now low) (now high) ⌝ }
     requires { ⌜ (0 < n) × (n ≤ 4) × (c + n ≤ size .width .0) ⌝ }
     requires { ⌜ ((first ≡ 0) × (r ≡ 0)) ⊎ ((first ≡ 2) × (0 < r)) ⌝ }
+    requires { ⌜ m ≡ r * size .width .0 + c ⌝ }
     requires { ⌜ Holds size (now samples) r c first 18 0 (16 * n + 2) (now strip) ⌝ }
     requires { ⌜ Through size (now samples) (r * size .width .0 + c) (blockOf (now dc) (now low) (now high)) ⌝ }
     ensures { λ u. ⌜ Holds size (now (samples .entry)) r c 0 18 0 (16 * n) (now (strip .exit)) ⌝ }
@@ -145,8 +155,7 @@ fn upper(
     if first == 0 {
         return;
     }
-    let across = size.width.0;
-    fetch(dc, low, high, r * (across as usize) + c, n, strip);
+    fetch(dc, low, high, m, n, strip);
 }
 
 // Rows 16 and 17 of the strip, where there is a row of macroblocks below.
@@ -158,10 +167,12 @@ fn lower(
     dc: &mut [i32],
     low: &mut [i32],
     high: &mut [i32],
+    m: usize,
     down: usize,
     strip: &[i32],
 )
     requires { ⌜ Sized size × (r < size .height .0) ⌝ }
+    requires { ⌜ m ≡ r * size .width .0 + c ⌝ }
     requires { ⌜ (length (now strip) ≡ 1296) × (n ≤ 4) × (c + n ≤ size .width .0) ⌝ }
     requires { ⌜ Planes size (now dc) (now low) (now high) ⌝ }
     requires { ⌜ ((down ≡ 3) × (r + 1 ≡ size .height .0)) ⊎ ((down ≡ 4) × (r + 1 < size .height .0)) ⌝ }
@@ -170,26 +181,28 @@ fn lower(
     if down == 3 {
         return;
     }
-    let across = size.width.0;
-    let width = across as usize;
-    park(dc, low, high, r * width + c + width, n, strip);
+    let across = size.width.0 as usize;
+    park(dc, low, high, m + across, n, strip);
 }
 
-// n macroblocks of row r, from macroblock c of the row on.
+// n macroblocks of row r, from macroblock c of the row on: they begin at place `at` of the samples and with macroblock m of the planes.
 fn group(
     size: Size,
     r: usize,
     c: usize,
     n: usize,
     samples: &[i32],
+    at: usize,
     dc: &mut [i32],
     low: &mut [i32],
     high: &mut [i32],
+    m: usize,
     first: usize,
     down: usize,
     strip: &mut [i32],
 )
     requires { ⌜ Given size r c (now samples) (now strip) ⌝ }
+    requires { ⌜ (at ≡ r * (256 * size .width .0) + 16 * c) × (m ≡ r * size .width .0 + c) ⌝ }
     requires { ⌜ Planes size (now dc) (now low) (now high) ⌝ }
     requires { ⌜ Rows size r first down ⌝ }
     requires { ⌜ (0 < n) × (n ≤ 4) × (c + n ≤ size .width .0) ⌝ }
@@ -199,11 +212,10 @@ fn group(
     ensures { λ u. ⌜ (n ≡ 4 → c + n < size .width .0 → Carried size (now (samples .entry)) r (c + n) first (now (strip .exit))) ⌝ }
     ensures { λ u. ⌜ length (now (strip .exit)) ≡ 1296 ⌝ }
 {
-    fill(size, r, c, n, samples, first, down, strip);
-    upper(size, r, c, n, samples, dc, low, high, first, strip);
-    let across = size.width.0;
-    cores(strip, dc, low, high, r * (across as usize) + c, n);
-    lower(size, r, c, n, dc, low, high, down, strip);
+    fill(size, r, c, n, samples, at, first, down, strip);
+    upper(size, r, c, n, samples, dc, low, high, m, first, strip);
+    cores(strip, dc, low, high, m, n);
+    lower(size, r, c, n, dc, low, high, m, down, strip);
 }
 
 // How many of those that are left go together.
@@ -218,19 +230,22 @@ fn together(left: usize) -> usize
     left
 }
 
-// Row r of macroblocks.
+// Row r of macroblocks, which begins at place `at` of the samples and with macroblock m of the planes.
 fn undo_row(
     size: Size,
     r: usize,
     samples: &[i32],
+    at: usize,
     dc: &mut [i32],
     low: &mut [i32],
     high: &mut [i32],
+    m: usize,
     first: usize,
     down: usize,
     strip: &mut [i32],
 )
     requires { ⌜ Given size r 0 (now samples) (now strip) ⌝ }
+    requires { ⌜ (at ≡ r * (256 * size .width .0)) × (m ≡ r * size .width .0) ⌝ }
     requires { ⌜ Planes size (now dc) (now low) (now high) ⌝ }
     requires { ⌜ Rows size r first down ⌝ }
     requires { ⌜ Through size (now samples) (r * size .width .0) (blockOf (now dc) (now low) (now high)) ⌝ }
@@ -242,7 +257,21 @@ fn undo_row(
     let mut c = 0;
     while c < width {
         let n = together(width - c);
-        group(size, r, c, n, samples, dc, low, high, first, down, strip);
+        group(
+            size,
+            r,
+            c,
+            n,
+            samples,
+            at + 16 * c,
+            dc,
+            low,
+            high,
+            m + c,
+            first,
+            down,
+            strip,
+        );
         c += n;
     }
 }
@@ -274,13 +303,30 @@ fn undo_filtered(size: Size, samples: &[i32], dc: &mut [i32], low: &mut [i32], h
     requires { ⌜ Planes size (now dc) (now low) (now high) ⌝ }
     ensures { λ u. ⌜ secondGrid (size .width .0) (size .height .0) (firstGrid (size .width .0) (size .height .0) (now (dc .exit)) (now (low .exit))) (now (high .exit)) ≡ undo (coresOf (4 * size .width .0) (4 * size .height .0)) (unfiltered size (now (samples .entry))) ⌝ }
 {
-    let down = size.height.0;
-    let height = down as usize;
+    let across = size.width.0 as usize;
+    let height = size.height.0 as usize;
+    let w = 16 * across;
     let mut strip = [0i32; 1296];
+    let mut at = 0;
+    let mut m = 0;
     for r in 0..height {
         let first = first_row(r);
         let rows = windows_down(r, height);
-        undo_row(size, r, samples, dc, low, high, first, rows, &mut strip);
+        undo_row(
+            size,
+            r,
+            samples,
+            at,
+            dc,
+            low,
+            high,
+            m,
+            first,
+            rows,
+            &mut strip,
+        );
+        at += 16 * w;
+        m += across;
     }
 }
 

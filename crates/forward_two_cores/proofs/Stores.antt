@@ -5,7 +5,7 @@ use mathlib.Core.Logic.{by-cases}
 use mathlib.Core.List.{List}
 use native.Mathlib.Omega.{arith}
 use native.Mathlib.Decide.{decLt}
-use native.Mathlib.Nat.{add-mul, mul-le-mul-right}
+use native.Mathlib.Nat.{mul-le-mul-right}
 use lib.Arith.{digits-div, digits-mod}
 use lib.ListN.{length, set, length-set}
 use lib.Seq.{getD-set-same, getD-set-other}
@@ -14,7 +14,8 @@ use Rattle.lifting.specs.Program.{at, get, put, undo}
 use Rattle.figures.specs.Block.{four}
 use Rattle.figures.specs.Figures.{core}
 use Rattle.picture.specs.Level.{strip, square}
-use Rattle.picture.specs.Planes.{coefficients, blockAt}
+use Rattle.picture.specs.Planes.{blockAt}
+use Rattle.grid.proofs.Rows.{row-inside}
 use Rattle.forward_kernel.specs.Placed.{Placed, undoneAt, blockIn}
 use Rattle.forward_kernel.proofs.Stores.{same-block, block-is, placed-after, four-placed}
 use Rattle.forward_two_cores.specs.Blocks.{blockOf, squareIn, undoneIn, Among, Replaced, Elsewhere}
@@ -67,45 +68,53 @@ macroblock-replaced m f g dc low high dc' low' high' z q p n u v = record {
       (λ k h. by-cases (decLt (t / 16) m) (λ l. p .below (15 * t + k) (omega arith)) (λ l. p .above (15 * t + k) (omega (arith, l, o))));
 }
 
--- four blocks side by side after the others of their macroblock
+-- four blocks side by side after the others of their macroblock: the row of blocks k, which begins at place j
 
-module _ (w i : ℕ) (grid : List ℤ) where
-  side-by-side : (k l j : ℕ) → k ≡ j / 4 → l ≡ j % 4 → undoneAt w (i + 4 * k * w + 4 * l) grid ≡ undoneIn w i grid j
-  side-by-side k l j e f = ap₂ (λ (a b : ℕ). undoneAt w (i + 4 * a * w + 4 * b) grid) e f
+module _ (w i : ℕ) (grid : List ℤ) (k : ℕ) {j : ℕ} (begins : j ≡ i + k * (4 * w)) where
+  side-by-side : (l b : ℕ) → k ≡ b / 4 → l ≡ b % 4 → undoneAt w (j + 4 * l) grid ≡ undoneIn w i grid b
+  side-by-side l b e f = ap (λ (a : ℕ). undoneAt w a grid) place ∙ ap₂ (λ (a b : ℕ). undoneAt w (i + 4 * a * w + 4 * b) grid) e f
+    where
+      place : j + 4 * l ≡ i + 4 * k * w + 4 * l
+      place = omega arith
 
-  pub zeros-more : (k : ℕ) (zeros : List ℤ) {old mid new : List ℤ} → 4 * k + 3 < length old → ((l : ℕ) → l < 4 → at zeros l ≡ at (undoneAt w (i + 4 * k * w + 4 * l) grid) 0)
-      → Placed 0 (4 * k) (λ j. at (undoneIn w i grid j) 0) old mid → new ≡ put (strip 1 (4 * k)) (four zeros) mid → Placed 0 (4 * (k + 1)) (λ j. at (undoneIn w i grid j) 0) old new
-  zeros-more k zeros {old} {mid} {new} room z p e =
-      let f : ℕ → ℤ = λ j. at (undoneIn w i grid j) 0 in
-      placed-after 0 (4 * k) (4 * k) 4 (4 * (k + 1)) f (at zeros) f (omega arith) (omega arith) (omega arith) (λ j h. refl) (λ l h. z l h ∙ ap (λ b. at b 0) (side-by-side k l (4 * k + l) (omega arith) (omega arith)))
+  pub zeros-more : (zeros : List ℤ) {old mid new : List ℤ} → 4 * k + 3 < length old → ((l : ℕ) → l < 4 → at zeros l ≡ at (undoneAt w (j + 4 * l) grid) 0)
+      → Placed 0 (4 * k) (λ b. at (undoneIn w i grid b) 0) old mid → new ≡ put (strip 1 (4 * k)) (four zeros) mid → Placed 0 (4 * (k + 1)) (λ b. at (undoneIn w i grid b) 0) old new
+  zeros-more zeros {old} {mid} {new} room z p e =
+      let f : ℕ → ℤ = λ b. at (undoneIn w i grid b) 0 in
+      placed-after 0 (4 * k) (4 * k) 4 (4 * (k + 1)) f (at zeros) f (omega arith) (omega arith) (omega arith) (λ b h. refl) (λ l h. z l h ∙ ap (λ b. at b 0) (side-by-side l (4 * k + l) (omega arith) (omega arith)))
       p (subst (λ (a : ℕ). Placed a 4 (at zeros) mid new) (omega arith) (four-placed (4 * k) zeros mid (omega (arith, p .len)) e))
 
-  pub rest-more : (m k : ℕ) {old mid new : List ℤ} → Placed (240 * m) (60 * k) (λ j. at (undoneIn w i grid (j / 15)) (j % 15 + 1)) old mid
-      → Placed (240 * m + 60 * k) 60 (λ j. at (undoneAt w (i + 4 * k * w + 4 * (j / 15)) grid) (j % 15 + 1)) mid new → Placed (240 * m) (60 * (k + 1)) (λ j. at (undoneIn w i grid (j / 15)) (j % 15 + 1)) old new
-  rest-more m k p q =
-      let f : ℕ → ℤ = λ j. at (undoneIn w i grid (j / 15)) (j % 15 + 1) in
-      placed-after (240 * m) (60 * k) (60 * k) 60 (60 * (k + 1)) f (λ j. at (undoneAt w (i + 4 * k * w + 4 * (j / 15)) grid) (j % 15 + 1)) f (omega arith) (omega arith) (omega arith) (λ j h. refl)
-      (λ j h. ap₂ (λ (b : List ℤ) (n : ℕ). at b n) (side-by-side k (j / 15) ((60 * k + j) / 15) (omega arith) (omega arith)) (omega arith)) p q
+  pub rest-more : (m : ℕ) {from : ℕ} {old mid new : List ℤ} → from ≡ 240 * m + 60 * k → Placed (240 * m) (60 * k) (λ n. at (undoneIn w i grid (n / 15)) (n % 15 + 1)) old mid
+      → Placed from 60 (λ n. at (undoneAt w (j + 4 * (n / 15)) grid) (n % 15 + 1)) mid new → Placed (240 * m) (60 * (k + 1)) (λ n. at (undoneIn w i grid (n / 15)) (n % 15 + 1)) old new
+  rest-more m {mid = mid} {new} e p q =
+      let f : ℕ → ℤ = λ n. at (undoneIn w i grid (n / 15)) (n % 15 + 1) in
+      let g : ℕ → ℤ = λ n. at (undoneAt w (j + 4 * (n / 15)) grid) (n % 15 + 1) in
+      placed-after (240 * m) (60 * k) (60 * k) 60 (60 * (k + 1)) f g f (omega arith) (omega arith) (omega arith) (λ n h. refl)
+      (λ n h. ap₂ (λ (b : List ℤ) (n : ℕ). at b n) (side-by-side (n / 15) ((60 * k + n) / 15) (omega arith) (omega arith)) (omega arith)) p (subst (λ (a : ℕ). Placed a 60 g mid new) e q)
 
+module _ (w i : ℕ) (grid : List ℤ) where
   pub length-undone : (k : ℕ) → length (undoneIn w i grid k) ≡ 16
   unfolding undoneAt undo core get
   length-undone k = refl
 
--- ---- a macroblock's squares in the samples
+-- ---- rows
 
-module _ {W : ℕ} (wide : 0 < W) (r c : ℕ) (beside : c < W) where
-  pub sample-square : (samples : List ℤ) (t : ℕ) → t / 16 ≡ r * W + c → undoneIn (16 * W) (16 * r * (16 * W) + 16 * c) samples (t % 16) ≡ undo core (squareIn W samples t)
+-- ---- a macroblock's squares in the samples: macroblock c of row r, which begins at place i and with macroblock m
+
+module _ {W : ℕ} (wide : 0 < W) (r c : ℕ) (beside : c < W) {i m : ℕ} (begins : i ≡ r * (256 * W)) (first : m ≡ r * W) where
+  pub sample-square : (samples : List ℤ) (t : ℕ) → t / 16 ≡ m + c → undoneIn (16 * W) (i + 16 * c) samples (t % 16) ≡ undo core (squareIn W samples t)
   unfolding squareIn undoneAt
   sample-square samples t e =
       let k = t % 16 in
-      let row : t / 16 / W ≡ r = rw e (digits-div r beside) in
-      let column : t / 16 % W ≡ c = rw e (digits-mod r beside) in
+      let number : t / 16 ≡ r * W + c = omega arith in
+      let row : t / 16 / W ≡ r = rw number (digits-div r beside) in
+      let column : t / 16 % W ≡ c = rw number (digits-mod r beside) in
       let place : blockAt W t ≡ (4 * r + k / 4) * (4 * W) + (4 * c + k % 4) = ap₂ (λ (i j : ℕ). (4 * i + k / 4) * (4 * W) + (4 * j + k % 4)) row column in
       let low : 4 * c + k % 4 < 4 * W = omega arith in
       rw (place, digits-div (4 * r + k / 4) low, digits-mod (4 * r + k / 4) low) (ap₂ (λ (w i : ℕ). undo core (get (square w i) samples)) (omega arith) (omega arith))
 
-  pub macroblock-inside : (H : ℕ) → r < H → (r * W + c < W * H) × (16 * r * (16 * W) + 16 * c + 15 * (16 * W) + 15 < 256 * (W * H))
-  macroblock-inside H h = let most : (r + 1) * W ≤ H * W = mul-le-mul-right W (omega arith) in (omega (arith, rw (add-mul r 1 W) at most), omega (arith, rw (add-mul r 1 W) at most))
+  pub macroblock-inside : (H : ℕ) → r < H → (m + c < W * H) × (i + 16 * c + 15 * (16 * W) + 15 < 256 * (W * H))
+  macroblock-inside H h = (omega (arith, row-inside r H W h), omega (arith, row-inside r H W h))
 
 -- ---- numbers of one macroblock's blocks that are stored and then stored anew
 

@@ -41,9 +41,13 @@ pub fn undo_macroblock(
         (blockOf (now (dc .entry)) (now (low .entry)) (now (high .entry))) (blockOf (now (dc .exit)) (now (low .exit)) (now (high .exit))) ⌝ }
 {
     let mut z = [0i32; 16];
+    let mut row = at;
+    let mut from = 240 * m;
     for k in 0..4 {
-        let zeros = undo_four_cores(grid, w, at + 4 * k * w, high, 240 * m + 60 * k);
+        let zeros = undo_four_cores(grid, w, row, high, from);
         put_four(&mut z, 1, 4 * k, zeros);
+        row += 4 * w;
+        from += 60;
     }
     put_zeros(dc, low, m, &z);
 }
@@ -66,8 +70,10 @@ fn touch(samples: &[i32], w: usize, at: usize, high: &mut [i32], from: usize)
     ensures { λ u. ⌜ Elsewhere from 240 (now (high .entry)) (now (high .exit)) ⌝ }
 {
     let rows = far_rows(w);
+    let mut row = at;
     for y in 0..rows {
-        high[from + 16 * y] = samples[at + y * w];
+        high[from + 16 * y] = samples[row];
+        row += w;
     }
 }
 
@@ -90,16 +96,19 @@ fn undo_macroblock_of(
     undo_macroblock(samples, w, at, dc, low, high, m);
 }
 
-// Row r of a picture's macroblocks.
+// Row r of a picture's macroblocks, which begins at place `at` of the samples and with macroblock m of the planes.
 fn undo_row(
     size: Size,
     r: usize,
     samples: &[i32],
+    at: usize,
     dc: &mut [i32],
     low: &mut [i32],
     high: &mut [i32],
+    m: usize,
 )
     requires { ⌜ Sized size × (r < size .height .0) ⌝ }
+    requires { ⌜ (at ≡ r * (256 * size .width .0)) × (m ≡ r * size .width .0) ⌝ }
     requires { ⌜ length (now samples) ≡ 256 * macroblocks size ⌝ }
     requires { ⌜ (length (now dc) ≡ macroblocks size) × (length (now low) ≡ 15 * macroblocks size) × (length (now high) ≡ 240 * macroblocks size) ⌝ }
     ensures { λ u. ⌜ Replaced (Among (r * size .width .0) (r * size .width .0 + size .width .0)) (λ t. undo core (squareIn (size .width .0) (now (samples .entry)) t))
@@ -109,15 +118,7 @@ fn undo_row(
     let width = across as usize;
     let w = 16 * width;
     for c in 0..width {
-        undo_macroblock_of(
-            samples,
-            w,
-            16 * r * w + 16 * c,
-            dc,
-            low,
-            high,
-            r * width + c,
-        );
+        undo_macroblock_of(samples, w, at + 16 * c, dc, low, high, m + c);
     }
 }
 
@@ -129,9 +130,14 @@ pub fn undo_cores(size: Size, samples: &[i32], dc: &mut [i32], low: &mut [i32], 
     ensures { λ u. ⌜ secondGrid (size .width .0) (size .height .0) (firstGrid (size .width .0) (size .height .0) (now (dc .exit)) (now (low .exit))) (now (high .exit)) ≡
         undo (cores (4 * size .width .0) (4 * size .height .0)) (now (samples .entry)) ⌝ }
 {
-    let down = size.height.0;
-    let height = down as usize;
-    for r in 0..height {
-        undo_row(size, r, samples, dc, low, high);
+    let across = size.width.0 as usize;
+    let down = size.height.0 as usize;
+    let w = 16 * across;
+    let mut at = 0;
+    let mut m = 0;
+    for r in 0..down {
+        undo_row(size, r, samples, at, dc, low, high, m);
+        at += 16 * w;
+        m += across;
     }
 }

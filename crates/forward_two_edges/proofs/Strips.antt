@@ -16,15 +16,13 @@ use Rattle.picture.specs.Level.{cell, strip as line, filters}
 use Rattle.picture.specs.Sizes.{macroblocks, Sized}
 use Rattle.picture.specs.declared.size.Size.{Size}
 use Rattle.picture.proofs.CheckLaws.{few}
+use Rattle.grid.proofs.Rows.{row-inside}
 use Rattle.forward_kernel.proofs.Stores.{below-four}
 use Rattle.forward_two_edges.specs.Unfiltered.{unfiltered, Edge}
 use Rattle.forward_two_edges.specs.Strip.{Holds, Kept, Rows, Spread, unfilteredAt}
 use Rattle.forward_two_edges.proofs.Numbers.{cell-low, row-at, column-at, corner-at}
 
 -- ---- numbers along a line
-
-pub gap : (k n step : ℕ) → k < n → k * step + step ≤ n * step
-gap k n step h = let e : (k + 1) * step ≤ n * step = mul-le-mul-right step (omega arith) in omega (arith, rw (add-mul k 1 step) at e)
 
 pub spread-none : (i step : ℕ) (f : ℕ → ℤ) (v : List ℤ) → Spread i step 0 f v v
 spread-none i step f v = record { len = refl; own = λ k h. absurd (omega arith); others = λ j h. refl }
@@ -34,44 +32,44 @@ spread-next i step n f {old} {mid} j {x} far e room q p = record {
   len = length-set mid j x ∙ p .len;
   own = λ k h. by-cases (ℕ-discrete k n)
       (λ y. ap (at (set mid j x)) (ap (λ (m : ℕ). i + m * step) y ∙ sym e) ∙ getD-set-same mid j x (pos 0) (omega (arith, p .len)) ∙ q ∙ ap f (sym y))
-      (λ o. getD-set-other mid j (i + k * step) x (pos 0) (λ y. absurd (omega (arith, y, gap k n step (omega (arith, o))))) ∙ p .own k (omega (arith, o)));
+      (λ o. getD-set-other mid j (i + k * step) x (pos 0) (λ y. absurd (omega (arith, y, row-inside k n step (omega (arith, o))))) ∙ p .own k (omega (arith, o)));
   others = λ k h. getD-set-other mid j k x (pos 0) (λ y. h n (omega arith) (y ∙ e)) ∙ p .others k (λ m l. h m (omega arith));
 }
 
-spread-four : (i step : ℕ) (xs old : List ℤ) → 0 < step → i + step + step + step < length old → Spread i step 4 (at xs) old (put (line step i) (four xs) old)
-unfolding put
-spread-four i step xs old far room =
-    spread-next i step 3 (at xs) (i + step + step + step) far (omega arith) (omega arith) refl
-    (spread-next i step 2 (at xs) (i + step + step) far (omega arith) (omega arith) refl
-    (spread-next i step 1 (at xs) (i + step) far (omega arith) (omega arith) refl (spread-next i step 0 (at xs) i far (omega arith) (omega arith) refl (spread-none i step (at xs) old))))
+-- a four of samples read, unfiltered and stored
+pub spread-four : (samples : List ℤ) (step a i far : ℕ) (x v : List ℤ) {old new : List ℤ} → 0 < far → i + far + far + far < length old → four x ≡ get (line step a) samples → four v ≡ undo fourFilter (four x)
+    → new ≡ put (line far i) (four v) old → Spread i far 4 (at (unfilteredAt samples step a)) old new
+unfolding put unfilteredAt
+spread-four samples step a i far x v {old} {new} some room e g w =
+    let f = at (unfilteredAt samples step a) in
+    let q : (k : ℕ) → k < 4 → at v k ≡ f k = λ k h. below-four (λ j. at v j ≡ at (four v) j) refl refl refl refl k h ∙ ap (λ y. at y k) (g ∙ ap (undo fourFilter) e) in
+    rw w
+    (spread-next i far 3 f (i + far + far + far) some (omega arith) (omega arith) (q 3 (omega arith))
+    (spread-next i far 2 f (i + far + far) some (omega arith) (omega arith) (q 2 (omega arith))
+    (spread-next i far 1 f (i + far) some (omega arith) (omega arith) (q 1 (omega arith)) (spread-next i far 0 f i some (omega arith) (omega arith) (q 0 (omega arith)) (spread-none i far f old)))))
 
--- four more
-pub spread-more : (i step n a : ℕ) (f : ℕ → ℤ) (xs : List ℤ) {old mid new : List ℤ} → 0 < step → a ≡ i + 4 * n * step → a + step + step + step < length old → ((k : ℕ) → k < 4 → at xs k ≡ f (4 * n + k))
-    → Spread i step (4 * n) f old mid → new ≡ put (line step a) (four xs) mid → Spread i step (4 * (n + 1)) f old new
-spread-more i step n a f xs {old} {mid} {new} far e room v p w =
-    let q : Spread a step 4 (at xs) mid new = rw w (spread-four a step xs mid far (omega (arith, p .len))) in
+-- number j of the unfiltered fours that follow one another from place a on
+abbrev pub foursFrom : List ℤ → ℕ → ℕ → ℕ → ℤ
+foursFrom samples step a j = at (unfilteredAt samples step (a + 4 * step * (j / 4))) (j % 4)
+
+-- one four more
+pub spread-more : (samples : List ℤ) (step a i far n b j : ℕ) {old mid new : List ℤ} → 0 < far → b ≡ a + 4 * step * n → j ≡ i + 4 * n * far
+    → Spread i far (4 * n) (foursFrom samples step a) old mid → Spread j far 4 (at (unfilteredAt samples step b)) mid new → Spread i far (4 * (n + 1)) (foursFrom samples step a) old new
+spread-more samples step a i far n b j {old} {mid} {new} some here e p q =
     record {
       len = q .len ∙ p .len;
       own = λ k h. by-cases (decLt k (4 * n))
-          (λ l. q .others (i + k * step) (λ m o y. absurd (omega (arith, y, e, gap k (4 * n) step l))) ∙ p .own k l)
+          (λ l. q .others (i + k * far) (λ m o y. absurd (omega (arith, y, e, row-inside k (4 * n) far l))) ∙ p .own k l)
           (λ l.
           let m = k - 4 * n in
-          let b : 4 * n * step + m * step ≡ k * step = sym (add-mul (4 * n) m step) ∙ ap (λ (j : ℕ). j * step) (omega (arith, l)) in
-          ap (at new) (omega (arith, b, e)) ∙ q .own m (omega (arith, l)) ∙ v m (omega (arith, l)) ∙ ap f (omega (arith, l)));
-      others = λ j h.
-          q .others j (λ m o y. h (4 * n + m) (omega arith) (y ∙ e' m)) ∙ p .others j (λ m o. h m (omega arith));
+          let d : 4 * n * far + m * far ≡ k * far = sym (add-mul (4 * n) m far) ∙ ap (λ (o : ℕ). o * far) (omega (arith, l)) in
+          ap (at new) (omega (arith, d, e)) ∙ q .own m (omega (arith, l))
+          ∙ ap₂ (λ (o u : ℕ). at (unfilteredAt samples step o) u) (here ∙ ap (λ (o : ℕ). a + 4 * step * o) (omega (arith, l))) (omega (arith, l)));
+      others = λ k h. q .others k (λ m o y. h (4 * n + m) (omega arith) (y ∙ e' m)) ∙ p .others k (λ m o. h m (omega arith));
     }
   where
-    e' : (m : ℕ) → a + m * step ≡ i + (4 * n + m) * step
-    e' m = rw (add-mul (4 * n) m step) (omega arith)
-
--- what a four read and unfiltered says of each number
-pub unfiltered-four : (samples : List ℤ) (step a l : ℕ) (x v : List ℤ) → four x ≡ get (line step (a + 4 * step * l)) samples → four v ≡ undo fourFilter (four x)
-    → (k : ℕ) → k < 4 → at v k ≡ at (unfilteredAt samples step (a + 4 * step * ((4 * l + k) / 4))) ((4 * l + k) % 4)
-unfolding unfilteredAt
-unfiltered-four samples step a l x v e f k h =
-    below-four (λ j. at v j ≡ at (four v) j) refl refl refl refl k h ∙ ap (λ y. at y k) (f ∙ ap (undo fourFilter) e)
-    ∙ ap₂ (λ (m n : ℕ). at (undo fourFilter (get (line step (a + 4 * step * m)) samples)) n) (omega arith) (omega arith)
+    e' : (m : ℕ) → j + m * far ≡ i + (4 * n + m) * far
+    e' m = rw (add-mul (4 * n) m far) (omega arith)
 
 -- ---- rows and columns that join
 
@@ -104,12 +102,12 @@ kept-then d e = record { len = e .len ∙ d .len; same = λ y x m n. e .same y x
 
 -- ---- places of the samples
 
-pub place-low : (size : Size) → Sized size → (y x : ℕ) → y < 16 * size .height .0 → x < 16 * size .width .0
-    → (y * (16 * size .width .0) + x < 256 * macroblocks size) × (256 * macroblocks size ≤ 55507200)
-place-low size z y x h k =
+pub place-low : (size : Size) → Sized size → (y x : ℕ) {a : ℕ} → a ≡ cell (4 * size .width .0) y x → y < 16 * size .height .0 → x < 16 * size .width .0
+    → (a < 256 * macroblocks size) × (256 * macroblocks size ≤ 55507200)
+place-low size z y x e h k =
     let W = size .width .0 in
     let H = size .height .0 in
-    (omega (arith, cell-low (4 * W) (4 * H) y x (omega arith) (omega arith)), omega (arith, few W H (z .most-wide) (z .most-tall)))
+    (omega (arith, e, cell-low (4 * W) (4 * H) y x (omega arith) (omega arith)), omega (arith, few W H (z .most-wide) (z .most-tall)))
 
 -- ---- what a line settles
 
@@ -125,7 +123,7 @@ module _ (size : Size) (samples : List ℤ) (wide : 0 < size .width .0) (tall : 
 
   -- n fours of row y
   pub row-filled : (y n a : ℕ) {old new : List ℤ} → n ≤ 16 → 4 * c + n < 4 * W → Edge (4 * H) (16 * r + y) → 16 * r + y < 16 * H → a ≡ (16 * r + y) * (16 * W) + 16 * c + 2
-      → Spread (72 * y + 2) 1 (4 * n) (λ j. at (unfilteredAt samples 1 (a + 4 * 1 * (j / 4))) (j % 4)) old new
+      → Spread (72 * y + 2) 1 (4 * n) (foursFrom samples 1 a) old new
       → Holds size samples r c y (y + 1) 2 (4 * n + 2) new × Kept y (y + 1) 2 (4 * n + 2) old new
   unfolding unfilteredAt unfiltered
   row-filled y n a {old} {new} few some edge low e d = (
@@ -144,7 +142,7 @@ module _ (size : Size) (samples : List ℤ) (wide : 0 < size .width .0) (tall : 
 
   -- n fours of column x
   pub column-filled : (x n a i : ℕ) {old new : List ℤ} → x < 72 → 4 * r + n < 4 * H → Edge (4 * W) (16 * c + x) → 16 * c + x < 16 * W → a ≡ (16 * r + 2) * (16 * W) + 16 * c + x → i ≡ 144 + x
-      → Spread i 72 (4 * n) (λ j. at (unfilteredAt samples (16 * W) (a + 4 * (16 * W) * (j / 4))) (j % 4)) old new
+      → Spread i 72 (4 * n) (foursFrom samples (16 * W) a) old new
       → Holds size samples r c 2 (4 * n + 2) x (x + 1) new × Kept 2 (4 * n + 2) x (x + 1) old new
   unfolding unfilteredAt unfiltered
   column-filled x n a i {old} {new} few some edge low e f d = (
@@ -220,6 +218,14 @@ module _ {size : Size} {r first down : ℕ} (low : r < size .height .0) (rows : 
       which : ((first ≡ 0) × (r ≡ 0)) ⊎ ((first ≡ 2) × (0 < r)) → first ≤ 2
       which (inl h) = omega (arith, h)
       which (inr h) = omega (arith, h)
+
+  -- the first row, if it lies above the windows, is the first of the strip
+  pub first-place : (p x : ℕ) {a : ℕ} → a ≡ cell p (16 * r) x → first < 2 → a ≡ cell p (16 * r + first) x
+  first-place p x e h = e ∙ ap (λ (y : ℕ). cell p y x) (which (rows .top))
+    where
+      which : ((first ≡ 0) × (r ≡ 0)) ⊎ ((first ≡ 2) × (0 < r)) → 16 * r ≡ 16 * r + first
+      which (inl k) = omega (arith, k)
+      which (inr k) = absurd (omega (arith, k))
 
   pub rows-down : (3 ≤ down) × (down ≤ 4) × (4 * r + down < 4 * size .height .0)
   rows-down = which (rows .bottom)

@@ -3,7 +3,7 @@ use Prim.Native.Nat.{ℕ, zero, suc, _+_, _*_, _<_, _≤_}
 use mathlib.Core.Path.{_≡_, refl, ap₂}
 use mathlib.Core.List.{List}
 use native.Mathlib.Numerals.{add-one}
-use native.Mathlib.Nat.{mul-le-mul, mul-le-mul-right, suc-mul}
+use native.Mathlib.Nat.{mul-le-mul}
 use native.Mathlib.Omega.{arith}
 use lib.IntN.{ℤ}
 use Rattle.lifting.specs.Program.{Program, run, each, _then_}
@@ -20,10 +20,6 @@ pub each-same : (n : ℕ) (f g : ℕ → Program) → ((k : ℕ) → k < n → f
 unfolding each
 each-same zero f g h = refl
 each-same (suc n) f g h = ap₂ _then_ (each-same n f g (λ k l. h k (omega arith))) (h n (omega arith))
-
--- the one fact of products: a turn that is not past the last has room for its stride
-pub next-turn : (j q n : ℕ) → j < q → j * n + n ≤ q * n
-next-turn j q n h = rw (← suc-mul j n) (mul-le-mul-right n h)
 
 -- a grid has at most 2100 * 1652 squares
 pub few-squares : (j p : ℕ) → j ≤ 1652 → p ≤ 2100 → j * p ≤ 3469200

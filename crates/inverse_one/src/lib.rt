@@ -8,6 +8,8 @@ ghost use Rattle.lifting.specs.Program.{run, put, at as number};
 ghost use Rattle.picture.specs.Level.{square, level};
 ghost use Rattle.picture.specs.Planes.{table, coefficients, firstGrid};
 ghost use Rattle.picture.specs.Sizes.{macroblocks, Sized};
+ghost use Rattle.inverse_levels.specs.Filled.{Filled};
+ghost use Rattle.inverse_one.specs.Rows.{planeNumbers, Between};
 use crate::cores::cores;
 use grid::get_four;
 use grid::put_square;
@@ -28,6 +30,21 @@ fn put_coefficients(grid: &mut [i32], w: usize, at: usize, first: i32, rest: &[i
     put_square(grid, w, at, [top, second, third, fourth]);
 }
 
+// Row r of the macroblocks, which begins at place `at` of the grid and with macroblock m of the planes.
+fn grid_row(view: &mut [i32], size: Size, r: usize, at: usize, dc: &[i32], low: &[i32], m: usize)
+    requires { ⌜ Sized size × (r < size .height .0) ⌝ }
+    requires { ⌜ (at ≡ r * (16 * size .width .0)) × (m ≡ r * size .width .0) ⌝ }
+    requires { ⌜ length (now view) ≡ 16 * macroblocks size ⌝ }
+    requires { ⌜ (length (now dc) ≡ macroblocks size) × (length (now low) ≡ 15 * macroblocks size) ⌝ }
+    ensures { λ o. ⌜ Filled (size .width .0) (planeNumbers (now (dc .entry)) (now (low .entry))) (now (view .entry)) (Between m (m + size .width .0)) (now (view .exit)) ⌝ }
+{
+    let p = size.width.0 as usize;
+    let w = 4 * p;
+    for c in 0..p {
+        put_coefficients(view, w, at + 4 * c, dc[m + c], low, 15 * (m + c));
+    }
+}
+
 // Each macroblock's square holds its DC number and then its low-pass numbers.
 fn first_grid(view: &mut [i32], size: Size, dc: &[i32], low: &[i32])
     requires { ⌜ Sized size ⌝ }
@@ -35,12 +52,15 @@ fn first_grid(view: &mut [i32], size: Size, dc: &[i32], low: &[i32])
     requires { ⌜ (length (now dc) ≡ macroblocks size) × (length (now low) ≡ 15 * macroblocks size) ⌝ }
     ensures { λ r. ⌜ now (view .exit) ≡ firstGrid (size .width .0) (size .height .0) (now (dc .entry)) (now (low .entry)) ⌝ }
 {
-    let p = size.width.0 as usize;
-    let w = 4 * p;
-    let mut m = p * (size.height.0 as usize);
-    while 0 < m {
-        m -= 1;
-        put_coefficients(view, w, 4 * (m / p) * w + 4 * (m % p), dc[m], low, 15 * m);
+    let across = size.width.0 as usize;
+    let down = size.height.0 as usize;
+    let w = 4 * across;
+    let mut at = 0;
+    let mut m = 0;
+    for r in 0..down {
+        grid_row(view, size, r, at, dc, low, m);
+        at += 4 * w;
+        m += across;
     }
 }
 

@@ -1,10 +1,10 @@
 -- Where blocks lie, and which of them cover numbers that are yet to be read: a block by its row and column of blocks, a sample by its row and column.
 use Prim.Native.Nat.{ℕ, _+_, _-_, _*_, _/_, _%_, _≤_, _<_}
 use mathlib.Core.Path.{_≡_, sym, _∙_, ap, ap₂}
-use mathlib.Core.Logic.{by-cases}
+use mathlib.Core.Logic.{by-cases, Dec·and}
 use mathlib.Core.List.{List}
 use native.Mathlib.Omega.{arith}
-use native.Mathlib.Decide.{ℕ-discrete, decLt, decLe}
+use native.Mathlib.Decide.{decLt, decLe}
 use native.Mathlib.Nat.{mod-lt, div-add-mod', add-mul, div-div-eq-div-mul}
 use lib.Arith.{digits-div, digits-mod}
 use lib.IntN.{ℤ}
@@ -13,25 +13,8 @@ use Rattle.figures.specs.Figures.{core}
 use Rattle.picture.specs.Planes.{table, coefficients, blockOrder, squareOf, place}
 use Rattle.lanes.proofs.Rows.{square-at}
 use Rattle.inverse_levels.specs.Filled.{Filled}
-use Rattle.inverse_levels.proofs.Filled.{square-not-after, filled-join, filled-same}
-use Rattle.inverse_two.specs.Blocks.{blockNumbers, cored, InRows, FourBlocks}
-
-both : {A B : Type 0} → Dec A → Dec B → Dec (A × B)
-both (yes a) (yes b) = yes (a, b)
-both (yes a) (no n) = no (λ z. n (z .1))
-both (no n) d = no (λ z. n (z .0))
-
--- block b is one of the four in row y of the blocks and column c of the macroblocks
-abbrev pub Four : ℕ → ℕ → ℕ → ℕ → Type 0
-Four W y c b = (b / (4 * W) ≡ y) × (b % (4 * W) / 4 ≡ c)
-
--- in row r of the macroblocks, the blocks from group k on, four to a group, in the order of the high-pass plane
-abbrev pub Later : ℕ → ℕ → ℕ → ℕ → Type 0
-Later W r k b = (b / (4 * W) / 4 ≡ r) × (k ≤ 4 * (b % (4 * W) / 4) + b / (4 * W) % 4)
-
--- in row y of the blocks, those from column c of the macroblocks on
-abbrev pub Right : ℕ → ℕ → ℕ → ℕ → Type 0
-Right W y c b = (b / (4 * W) ≡ y) × (c ≤ b % (4 * W) / 4)
+use Rattle.inverse_levels.proofs.Filled.{square-not-after, filled-none, filled-join, filled-same}
+use Rattle.inverse_two.specs.Blocks.{blockNumbers, cored, InRows, InBlocks, RowsCored, BlocksCored, FourBlocks}
 
 module _ {W : ℕ} (wide : 0 < W) where
   row-wide : 0 < 4 * W
@@ -39,12 +22,9 @@ module _ {W : ℕ} (wide : 0 < W) where
 
   -- ---- four blocks side by side
 
-  decided : (y c b : ℕ) → Dec (Four W y c b)
-  decided y c b = both (ℕ-discrete _ _) (ℕ-discrete _ _)
-
   -- a place among the four squares lies in one of the four
-  four-square : (y c r x i : ℕ) → c < W → r < 4 → x < 16 → i ≡ 4 * y * (4 * (4 * W)) + 16 * c + r * (4 * (4 * W)) + x → Four W y c (squareOf (4 * W) i)
-  four-square y c r x i inside h l e = (rw is (digits-div y column), rw (is, digits-mod y column) (omega arith))
+  four-square : (y c r x i : ℕ) → c < W → r < 4 → x < 16 → i ≡ 4 * y * (4 * (4 * W)) + 16 * c + r * (4 * (4 * W)) + x → InBlocks W y (y + 1) c (c + 1) (squareOf (4 * W) i)
+  four-square y c r x i inside h l e = ((omega (arith, row), omega (arith, row)), (omega (arith, part), omega (arith, part)))
     where
       column : 4 * c + x / 4 < 4 * W
       column = omega arith
@@ -64,36 +44,48 @@ module _ {W : ℕ} (wide : 0 < W) where
       is : squareOf (4 * W) i ≡ y * (4 * W) + (4 * c + x / 4)
       is = rw (down, right)
 
+      row : squareOf (4 * W) i / (4 * W) ≡ y
+      row = rw is (digits-div y column)
+
+      part : squareOf (4 * W) i % (4 * W) / 4 ≡ c
+      part = rw (is, digits-mod y column) (omega arith)
+
   -- what the kernel does is to fill the four blocks with their core transforms
-  pub four-filled : (y c from : ℕ) {old high v : List ℤ} → c < W → from ≡ 240 * (y / 4 * W + c) + 60 * (y % 4)
-      → FourBlocks old high (4 * (4 * W)) (4 * y * (4 * (4 * W)) + 16 * c) (y * (4 * W) + 4 * c) from v → Filled (4 * W) (cored (blockNumbers W old high)) old (Four W y c) v
-  four-filled y c from {old} {high} {v} inside order r = record {
+  pub four-filled : (y c first b from : ℕ) {old high v : List ℤ} → c < W → first ≡ 4 * y * (4 * (4 * W)) + 16 * c → b ≡ y * (4 * W) + 4 * c → from ≡ 240 * (y / 4 * W + c) + 60 * (y % 4)
+      → FourBlocks old high (4 * (4 * W)) first b from v → BlocksCored W high old y (y + 1) c (c + 1) v
+  four-filled y c first b from {old} {high} {v} inside there number order r = record {
     len = r .len;
     done = done;
-    rest = λ i n. r .rest i (λ m x h l e. n (four-square y c m x i inside h l e));
+    rest = λ i n. r .rest i (λ m x h l e. n (four-square y c m x i inside h l (omega (arith, e, there))));
   }
     where
-      done : (s k : ℕ) → Four W y c s → k < 16 → at v (place (4 * W) s k) ≡ cored (blockNumbers W old high) s k
+      done : (s k : ℕ) → InBlocks W y (y + 1) c (c + 1) s → k < 16 → at v (place (4 * W) s k) ≡ cored (blockNumbers W old high) s k
       done s k h m =
           ap (at v) place-is
-          ∙ sym (square-at (4 * (4 * W)) (4 * y * (4 * (4 * W)) + 16 * c + 4 * l) v k m)
+          ∙ sym (square-at (4 * (4 * W)) (first + 4 * l) v k m)
           ∙ ap (λ z. at z k) (r .own l (omega arith))
           ∙ ap₂ (λ (a : ℕ) (n : ℕ). at (run core (table 16 (coefficients (at old a) (λ j. at high (n + j))))) k) number-is order-is
         where
           l : ℕ
           l = s % (4 * W) % 4
 
+          row : s / (4 * W) ≡ y
+          row = omega (arith, h)
+
+          part : s % (4 * W) / 4 ≡ c
+          part = omega (arith, h)
+
           column : s % (4 * W) ≡ 4 * c + l
-          column = omega (arith, h .1)
+          column = omega (arith, part)
 
-          place-is : place (4 * W) s k ≡ 4 * y * (4 * (4 * W)) + 16 * c + 4 * l + k / 4 * (4 * (4 * W)) + k % 4
-          place-is = rw (h .0, column, add-mul (4 * y) (k / 4) (4 * (4 * W))) (omega arith)
+          place-is : place (4 * W) s k ≡ first + 4 * l + k / 4 * (4 * (4 * W)) + k % 4
+          place-is = rw (row, column, add-mul (4 * y) (k / 4) (4 * (4 * W))) (omega (arith, there))
 
-          number-is : y * (4 * W) + 4 * c + l ≡ s
-          number-is = omega (arith, column, rw (h .0) at (div-add-mod' s (4 * W)))
+          number-is : b + l ≡ s
+          number-is = omega (arith, number, column, rw row at (div-add-mod' s (4 * W)))
 
           order-is : from + 15 * l ≡ 15 * blockOrder W s
-          order-is = rw (h .0, h .1) (omega (arith, order))
+          order-is = rw (row, part) (omega (arith, order))
 
   -- ---- in which row of blocks the number of block b lies, as a sample
 
@@ -112,41 +104,44 @@ module _ {W : ℕ} (wide : 0 < W) where
 
   -- ---- parts of the grid joined
 
-  -- rows y to d after rows e to n, where d is e
-  pub rows-join : (high : List ℤ) (y d e n : ℕ) {old v u : List ℤ} → y ≤ e → e ≤ n → d ≡ e → Filled (4 * W) (cored (blockNumbers W old high)) old (InRows W e n) v
-      → Filled (4 * W) (cored (blockNumbers W v high)) v (InRows W y d) u → Filled (4 * W) (cored (blockNumbers W old high)) old (InRows W y n) u
-  rows-join high y d e n l m f r t =
-      filled-join row-wide (InRows W y n) (λ s. both (decLe _ _) (decLt _ _))
-      (λ s h o. by-cases (decLt (s / (4 * W)) d) (λ z. absurd (o (h .0, z))) (λ z. (omega (arith, z), h .1)))
-      (λ s h. (omega arith, h .1)) (λ s h. (h .0, omega arith)) (λ s k h z. later high r s (λ p. absurd (omega (arith, square-row s))) k) r t
+  -- no number of the blocks in rows y to e and columns c to d lies where those of columns n to k do
+  abbrev Free : ℕ → ℕ → ℕ → ℕ → ℕ → ℕ → Type 0
+  Free y e c d n k = (s : ℕ) → InBlocks W y e c d s → ¬ InBlocks W y e n k (squareOf (4 * W) s)
 
-  pub later-none : (r b : ℕ) → ¬ Later W r (4 * W) b
-  later-none r b h = absurd (omega (arith, mod-lt b {m = 4 * W} row-wide))
+  decided : (y e c d b : ℕ) → Dec (InBlocks W y e c d b)
+  decided y e c d b = Dec·and (Dec·and (decLe _ _) (decLt _ _)) (Dec·and (decLe _ _) (decLt _ _))
 
-  pub later-all : (r : ℕ) {f : ℕ → ℕ → ℤ} {old v : List ℤ} → Filled (4 * W) f old (Later W r 0) v → Filled (4 * W) f old (InRows W (4 * r) (4 * r + 4)) v
-  later-all r = filled-same (InRows W (4 * r) (4 * r + 4)) (λ b h. (omega arith, omega arith)) (λ b h. (omega arith, omega arith))
+  pub blocks-none : (high : List ℤ) (y e c : ℕ) (v : List ℤ) → BlocksCored W high v y e c c v
+  blocks-none high y e c v = filled-none _ _ _ _ (λ b h. absurd (omega (arith, h)))
 
-  pub later-next : (high : List ℤ) (r n k : ℕ) {old v u : List ℤ} → n ≡ k + 1 → 0 < r → Filled (4 * W) (cored (blockNumbers W old high)) old (Later W r n) v
-      → Filled (4 * W) (cored (blockNumbers W v high)) v (Four W (4 * r + k % 4) (k / 4)) u → Filled (4 * W) (cored (blockNumbers W old high)) old (Later W r k) u
-  later-next high r n k e low a t =
-      filled-join row-wide (Later W r k) (decided (4 * r + k % 4) (k / 4))
-      (λ s h o. by-cases (ℕ-discrete (4 * (s % (4 * W) / 4) + s / (4 * W) % 4) k) (λ z. absurd (o (omega arith, omega arith))) (λ z. (h .0, omega (arith, z))))
-      (λ s h. (h .0, omega arith)) (λ s h. (omega arith, omega arith)) (λ s i h z. later high a s (λ p. absurd (omega (arith, square-row s))) i) a t
+  pub blocks-no-rows : (high : List ℤ) (y c d : ℕ) (v : List ℤ) → BlocksCored W high v y y c d v
+  blocks-no-rows high y c d v = filled-none _ _ _ _ (λ b h. absurd (omega (arith, h)))
 
-  pub right-none : (y b : ℕ) → ¬ Right W y W b
-  right-none y b h = absurd (omega (arith, mod-lt b {m = 4 * W} row-wide))
+  pub blocks-all : (high : List ℤ) (y e : ℕ) {old v : List ℤ} → BlocksCored W high old y e 0 W v → RowsCored W high old y e v
+  blocks-all high y e = filled-same (InRows W y e) (λ b h. (h, (omega arith, omega (arith, mod-lt b {m = 4 * W} row-wide)))) (λ b h. h .0)
 
-  pub right-all : (y : ℕ) {f : ℕ → ℕ → ℤ} {old v : List ℤ} → Filled (4 * W) f old (Right W y 0) v → Filled (4 * W) f old (InRows W y (y + 1)) v
-  right-all y = filled-same (InRows W y (y + 1)) (λ b h. (omega arith, omega arith)) (λ b h. (omega arith, omega arith))
+  -- rows y to m, above rows n to e, where m is n
+  pub above : (high : List ℤ) (y m n e c d : ℕ) {old v u : List ℤ} → y ≤ m → m ≤ e → m ≡ n → BlocksCored W high old n e c d v → BlocksCored W high v y m c d u → BlocksCored W high old y e c d u
+  above high y m n e c d l h same r t =
+      filled-join row-wide (InBlocks W y e c d) (decided y m c d)
+      (λ s i o. by-cases (decLt (s / (4 * W)) m) (λ z. absurd (o ((i .0 .0, z), i .1))) (λ z. ((omega (arith, z, same), i .0 .1), i .1)))
+      (λ s i. ((omega (arith, i, same), i .0 .1), i .1)) (λ s i. ((i .0 .0, omega (arith, i)), i .1)) (λ s k i z. later high r s (λ p. absurd (omega (arith, i, p, same, square-row s))) k) r t
 
-  pub right-next : (high : List ℤ) (y n c : ℕ) {old v u : List ℤ} → n ≡ c + 1 → Filled (4 * W) (cored (blockNumbers W old high)) old (Right W y n) v
-      → Filled (4 * W) (cored (blockNumbers W v high)) v (Four W y c) u → Filled (4 * W) (cored (blockNumbers W old high)) old (Right W y c) u
-  right-next high y n c e a t =
-      filled-join row-wide (Right W y c) (decided y c)
-      (λ s h o. by-cases (ℕ-discrete (s % (4 * W) / 4) c) (λ z. absurd (o (h .0, z))) (λ z. (h .0, omega (arith, z))))
-      (λ s h. (h .0, omega arith)) (λ s h. (h .0, omega arith)) (λ s i h z. later high a s (before s h) i) a t
-    where
-      before : (s : ℕ) → Four W y c s → ¬ Right W y n (squareOf (4 * W) s)
-      before s h p =
-          let t = squareOf (4 * W) s in
-          absurd (omega (arith, square-not-after row-wide s, rw (h .0) at (div-add-mod' s (4 * W)), rw (p .0) at (div-add-mod' t (4 * W))))
+  -- columns c to m, left of columns n to d, where m is n
+  pub left-of : (high : List ℤ) (y e c m n d : ℕ) {old v u : List ℤ} → c ≤ m → m ≤ d → m ≡ n → Free y e c m n d → BlocksCored W high old y e n d v → BlocksCored W high v y e c m u → BlocksCored W high old y e c d u
+  left-of high y e c m n d l h same free r t =
+      filled-join row-wide (InBlocks W y e c d) (decided y e c m)
+      (λ s i o. by-cases (decLt (s % (4 * W) / 4) m) (λ z. absurd (o (i .0, (i .1 .0, z)))) (λ z. (i .0, (omega (arith, z, same), i .1 .1))))
+      (λ s i. (i .0, (omega (arith, i, same), i .1 .1))) (λ s i. (i .0, (i .1 .0, omega (arith, i)))) (λ s k i z. later high r s (free s i) k) r t
+
+  -- the numbers of rows that are not the topmost four lie above them
+  pub free-below : (y e c m n d : ℕ) → e ≤ 16 * y → Free y e c m n d
+  free-below y e c m n d h s i p = omega (arith, i, p, square-row s)
+
+  -- in one row of blocks, none lies after its block
+  pub free-row : (y c m n d : ℕ) → m ≤ n → Free y (y + 1) c m n d
+  free-row y c m n d h s i p =
+      let t = squareOf (4 * W) s in
+      let a : s / (4 * W) ≡ y = omega (arith, i) in
+      let b : t / (4 * W) ≡ y = omega (arith, p) in
+      omega (arith, i, p, square-not-after row-wide s, rw a at (div-add-mod' s (4 * W)), rw b at (div-add-mod' t (4 * W)))

@@ -1,5 +1,5 @@
 -- Blocks of level two, in place: which coefficients each block has, and the squares that hold them after their core transforms.
-use Prim.Native.Nat.{ℕ, _+_, _-_, _*_, _/_, _≤_, _<_}
+use Prim.Native.Nat.{ℕ, _+_, _-_, _*_, _/_, _%_, _≤_, _<_}
 use mathlib.Core.Path.{_≡_}
 use mathlib.Core.List.{List, [], _∷_, _++_}
 use lib.ListN.{length}
@@ -23,9 +23,17 @@ cored f b = at (run core (table 16 (f b)))
 abbrev pub InRows : ℕ → ℕ → ℕ → ℕ → Type 0
 InRows W y e b = (y ≤ b / (4 * W)) × (b / (4 * W) < e)
 
+-- and in the columns of macroblocks from c to below d
+abbrev pub InBlocks : ℕ → ℕ → ℕ → ℕ → ℕ → ℕ → Type 0
+InBlocks W y e c d b = InRows W y e b × ((c ≤ b % (4 * W) / 4) × (b % (4 * W) / 4 < d))
+
 -- in the samples v of a picture W macroblocks wide, those rows of blocks hold the core transforms of their coefficients, and the rest is the old
 abbrev pub RowsCored : ℕ → List ℤ → List ℤ → ℕ → ℕ → List ℤ → Type 0
 RowsCored W high old y e v = Filled (4 * W) (cored (blockNumbers W old high)) old (InRows W y e) v
+
+-- the same of the blocks in those rows and columns
+abbrev pub BlocksCored : ℕ → List ℤ → List ℤ → ℕ → ℕ → ℕ → ℕ → List ℤ → Type 0
+BlocksCored W high old y e c d v = Filled (4 * W) (cored (blockNumbers W old high)) old (InBlocks W y e c d) v
 
 -- a block in lanes, its numbers from place i on: coefficient 0 by itself, and coefficients 1 to 4, 4 to 7, 8 to 11 and 12 to 15 in four rows
 abbrev pub blockFrom : ℤ → List ℤ → List ℤ → List ℤ → List ℤ → ℕ → List ℤ

@@ -8,59 +8,102 @@ ghost use Rattle.lifting.specs.Program.{run};
 ghost use Rattle.picture.specs.Level.{level};
 ghost use Rattle.picture.specs.Planes.{secondGrid};
 ghost use Rattle.picture.specs.Sizes.{macroblocks, Sized};
-ghost use Rattle.inverse_two.specs.Blocks.{RowsCored};
+ghost use Rattle.inverse_two.specs.Blocks.{RowsCored, BlocksCored};
 use crate::four_blocks::four_blocks;
 use inverse_levels::edges_if;
 use inverse_levels::windows_if;
 use picture::counts::Macroblocks;
 use picture::size::Size;
 
-// Row r of the macroblocks, which is not the topmost: from the last number of its part of the high-pass plane to the first.
-fn macroblock_row(samples: &mut [i32], width: Macroblocks, r: usize, high: &[i32])
+// Macroblock c of row r, from its last row of blocks to its first. It begins at place `at` of the samples, its numbers from level one at b, and its
+// high-pass numbers at `from`.
+fn macroblock(
+    samples: &mut [i32],
+    width: Macroblocks,
+    r: usize,
+    c: usize,
+    at: usize,
+    b: usize,
+    high: &[i32],
+    from: usize,
+)
+    requires { ⌜ (c < width .0) × (width .0 ≤ 525) × (r < 413) ⌝ }
+    requires { ⌜ (at ≡ r * (256 * width .0) + 16 * c) × (b ≡ r * (16 * width .0) + 4 * c) × (from ≡ r * (240 * width .0) + 240 * c) ⌝ }
+    requires { ⌜ 256 * (r * width .0 + width .0) ≤ length (now samples) ⌝ }
+    requires { ⌜ 240 * (r * width .0 + width .0) ≤ length (now high) ⌝ }
+    ensures { λ o. ⌜ BlocksCored (width .0) (now (high .entry)) (now (samples .entry)) (4 * r) (4 * r + 4) c (c + 1) (now (samples .exit)) ⌝ }
+{
+    let p = width.0 as usize;
+    let w = 4 * (4 * p);
+    let mut to = at + 16 * w;
+    let mut number = b + 16 * p;
+    let mut next = from + 240;
+    let mut k = 4usize;
+    while 0 < k {
+        k -= 1;
+        to -= 4 * w;
+        number -= 4 * p;
+        next -= 60;
+        four_blocks(samples, w, to, number, high, next);
+    }
+}
+
+// Row r of the macroblocks, which is not the topmost, from its last to its first: the order of the rows too, so that memory is gone through in one direction.
+// The row begins at place `at` of the samples, its numbers from level one at b, and its high-pass numbers at `from`.
+fn macroblock_row(
+    samples: &mut [i32],
+    width: Macroblocks,
+    r: usize,
+    at: usize,
+    b: usize,
+    high: &[i32],
+    from: usize,
+)
     requires { ⌜ (0 < width .0) × (width .0 ≤ 525) × (0 < r) × (r < 413) ⌝ }
+    requires { ⌜ (at ≡ r * (256 * width .0)) × (b ≡ r * (16 * width .0)) × (from ≡ r * (240 * width .0)) ⌝ }
     requires { ⌜ 256 * (r * width .0 + width .0) ≤ length (now samples) ⌝ }
     requires { ⌜ 240 * (r * width .0 + width .0) ≤ length (now high) ⌝ }
     ensures { λ o. ⌜ RowsCored (width .0) (now (high .entry)) (now (samples .entry)) (4 * r) (4 * r + 4) (now (samples .exit)) ⌝ }
 {
     let p = width.0 as usize;
-    let w = 4 * (4 * p);
-    let first = 240 * (r * p);
-    let mut k = 4 * p;
-    while 0 < k {
-        k -= 1;
-        let y = 4 * r + k % 4;
-        let c = k / 4;
-        four_blocks(
+    let mut c = p;
+    while 0 < c {
+        c -= 1;
+        macroblock(
             samples,
-            w,
-            4 * y * w + 16 * c,
-            y * (4 * p) + 4 * c,
+            width,
+            r,
+            c,
+            at + 16 * c,
+            b + 4 * c,
             high,
-            first + 60 * k,
+            from + 240 * c,
         );
     }
 }
 
-// Row y of the blocks, in the topmost row of macroblocks, from the last block to the first.
-fn block_row(samples: &mut [i32], width: Macroblocks, y: usize, high: &[i32])
+// Row y of the blocks, in the topmost row of macroblocks, from the last block to the first. The places are those of its beginning.
+fn block_row(
+    samples: &mut [i32],
+    width: Macroblocks,
+    y: usize,
+    at: usize,
+    b: usize,
+    high: &[i32],
+    from: usize,
+)
     requires { ⌜ (0 < width .0) × (width .0 ≤ 525) × (y < 4) ⌝ }
+    requires { ⌜ (at ≡ y * (64 * width .0)) × (b ≡ y * (4 * width .0)) × (from ≡ 60 * y) ⌝ }
     requires { ⌜ 256 * width .0 ≤ length (now samples) ⌝ }
     requires { ⌜ 240 * width .0 ≤ length (now high) ⌝ }
-    ensures { λ o. ⌜ RowsCored (width .0) (now (high .entry)) (now (samples .entry)) y (y + 1) (now (samples .exit)) ⌝ }
+    ensures { λ o. ⌜ BlocksCored (width .0) (now (high .entry)) (now (samples .entry)) y (y + 1) 0 (width .0) (now (samples .exit)) ⌝ }
 {
     let p = width.0 as usize;
     let w = 4 * (4 * p);
     let mut c = p;
     while 0 < c {
         c -= 1;
-        four_blocks(
-            samples,
-            w,
-            4 * y * w + 16 * c,
-            y * (4 * p) + 4 * c,
-            high,
-            240 * c + 60 * y,
-        );
+        four_blocks(samples, w, at + 16 * c, b + 4 * c, high, from + 240 * c);
     }
 }
 
@@ -72,10 +115,17 @@ fn top_row(samples: &mut [i32], width: Macroblocks, high: &[i32])
     requires { ⌜ 240 * width .0 ≤ length (now high) ⌝ }
     ensures { λ o. ⌜ RowsCored (width .0) (now (high .entry)) (now (samples .entry)) 0 4 (now (samples .exit)) ⌝ }
 {
+    let p = width.0 as usize;
+    let mut at = 256 * p;
+    let mut b = 16 * p;
+    let mut from = 240;
     let mut y = 4;
     while 0 < y {
         y -= 1;
-        block_row(samples, width, y, high);
+        at -= 64 * p;
+        b -= 4 * p;
+        from -= 60;
+        block_row(samples, width, y, at, b, high, from);
     }
 }
 
@@ -88,13 +138,21 @@ pub fn level_two(samples: &mut [i32], filtered: bool, size: Size, high: &[i32])
     ensures { λ o. ⌜ now (samples .exit) ≡
         run (level filtered (4 * size .width .0) (4 * size .height .0)) (secondGrid (size .width .0) (size .height .0) (take (16 * macroblocks size) (now (samples .entry))) (now (high .entry))) ⌝ }
 {
-    let across = 4 * (size.width.0 as usize);
+    let width = size.width.0 as usize;
+    let w = 16 * width;
+    let across = 4 * width;
     let down = 4 * (size.height.0 as usize);
+    let mut at = samples.len();
+    let mut b = at / 16;
+    let mut from = high.len();
     let mut r = size.height.0 as usize;
     let mut windows = 3;
     while 1 < r {
         r -= 1;
-        macroblock_row(samples, size.width, r, high);
+        at -= 16 * w;
+        b -= 16 * width;
+        from -= 240 * width;
+        macroblock_row(samples, size.width, r, at, b, high, from);
         windows_if(samples, filtered, across, down, 4 * r, windows);
         windows = 4;
     }

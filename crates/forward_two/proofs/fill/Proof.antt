@@ -14,8 +14,8 @@ middle-requires c κs =
     let l = t .before .before in
     let s = l .before .before in
     let g = s .pre .0 in
-    let h = s .pre .1 .1 .1 in
-    (record { sized = g .sized; below = g .below; beside = g .beside; of-samples = g .of-samples; of-strip = l .left .ensures .1 }, (s .pre .1 .0, (omega (arith, h), omega (arith, h))))
+    let h = s .pre .1 .1 .1 .1 in
+    (record { sized = g .sized; below = g .below; beside = g .beside; of-samples = g .of-samples; of-strip = l .left .ensures .1 }, (s .pre .1 .0, (s .pre .1 .1 .0, (omega (arith, h), omega (arith, h)))))
 
 edge-columns-requires : tie.Need-edge-columns-requires
 edge-columns-requires c κs =
@@ -24,9 +24,9 @@ edge-columns-requires c κs =
     let l = t .before .before in
     let s = l .before .before in
     let g = s .pre .0 in
-    let h = s .pre .1 .1 .1 in
+    let h = s .pre .1 .1 .1 .1 in
     let end : s .args .c + s .args .n ≡ s .args .size .width .0 = omega (arith, t .if1) in
-    (record { sized = g .sized; below = g .below; beside = g .beside; of-samples = g .of-samples; of-strip = m .middle .ensures .1 .len ∙ l .left .ensures .1 }, (s .pre .1 .0, ((omega (arith, h), omega (arith, h, end)), (inr (omega (arith, h, end)), inr (omega (arith, h, end))))))
+    (record { sized = g .sized; below = g .below; beside = g .beside; of-samples = g .of-samples; of-strip = m .middle .ensures .1 .len ∙ l .left .ensures .1 }, (s .pre .1 .0, (s .pre .1 .1 .0, ((omega (arith, h), omega (arith, h, end)), (inr (omega (arith, h, end)), inr (omega (arith, h, end)))))))
 
 returns : tie.Need-returns
 returns c =
@@ -36,7 +36,7 @@ returns c =
     let l = t .before .before in
     let s = l .before .before in
     let a = s .args in
-    let h = s .pre .1 .1 .1 in
+    let h = s .pre .1 .1 .1 .1 in
     let end : a .c + a .n ≡ a .size .width .0 = omega (arith, t .if1) in
     (last-columns (a .r) (a .c) (a .n) (a .first) (h .0) (h .1) end (l .left .ensures .0) (m .middle .ensures .0) (m .middle .ensures .1) (e .edge-columns .ensures .0) (e .edge-columns .ensures .1), e .edge-columns .ensures .1 .len ∙ m .middle .ensures .1 .len ∙ l .left .ensures .1)
 
@@ -46,8 +46,8 @@ middle-requires-2 c κs =
     let l = t .before .before in
     let s = l .before .before in
     let g = s .pre .0 in
-    let h = s .pre .1 .1 .1 in
-    (record { sized = g .sized; below = g .below; beside = g .beside; of-samples = g .of-samples; of-strip = l .left .ensures .1 }, (s .pre .1 .0, (omega (arith, h), omega (arith, h, t .if1))))
+    let h = s .pre .1 .1 .1 .1 in
+    (record { sized = g .sized; below = g .below; beside = g .beside; of-samples = g .of-samples; of-strip = l .left .ensures .1 }, (s .pre .1 .0, (s .pre .1 .1 .0, (omega (arith, h), omega (arith, h, t .if1)))))
 
 returns-2 : tie.Need-returns-2
 returns-2 c =
@@ -56,7 +56,7 @@ returns-2 c =
     let l = t .before .before in
     let s = l .before .before in
     let a = s .args in
-    let h = s .pre .1 .1 .1 in
+    let h = s .pre .1 .1 .1 .1 in
     (inner-columns (a .r) (a .c) (a .n) (a .first) (h .0) (h .1) (l .left .ensures .0) (m .middle2 .ensures .0) (m .middle2 .ensures .1), m .middle2 .ensures .1 .len ∙ l .left .ensures .1)
 
 pub fill-spec : {M : Type 1} → statement M

@@ -12,7 +12,7 @@ edge-columns-requires c κs =
     let t = c .before in
     let s = t .before in
     let none : s .args .c ≡ 0 = omega (arith, t .if1) in
-    (s .pre .0, (s .pre .1 .0, ((omega arith, omega (arith, none, s .pre .0 .sized .wide)), (inl (omega (arith, none)), inl (omega (arith, none))))))
+    (s .pre .0, (s .pre .1 .0, (s .pre .1 .1 .0, ((omega arith, omega (arith, none, s .pre .0 .sized .wide)), (inl (omega (arith, none)), inl (omega (arith, none)))))))
 
 returns-2 : tie.Need-returns-2
 returns-2 c =
@@ -20,7 +20,7 @@ returns-2 c =
     let t = d .before .before in
     let s = t .before in
     let some : 0 < s .args .c = omega (arith, t .if1) in
-    (record { there = λ y x f g h k u v. d .carry .ensures .0 y x g k ∙ s .pre .1 .1 some .there y x f g k u }, d .carry .ensures .1 .len ∙ s .pre .0 .of-strip)
+    (record { there = λ y x f g h k u v. d .carry .ensures .0 y x g k ∙ s .pre .1 .1 .1 some .there y x f g k u }, d .carry .ensures .1 .len ∙ s .pre .0 .of-strip)
 
 pub left-spec : {M : Type 1} → statement M
 left-spec =

@@ -8,6 +8,7 @@ use lib.ListN.{length}
 use Rattle.forward_two_cores.specs.Blocks.{blockOf, squareIn}
 use Rattle.forward_two_cores.proofs.Whole.{sample-block, second-undone}
 use Rattle.forward_two_edges.specs.Unfiltered.{unfiltered}
+use Rattle.forward_two_edges.proofs.Strips.{place-low}
 use Rattle.forward_two.specs.Strips.{Through, Planes}
 use Rattle.forward_two.proofs.Joined.{through-none, through-as}
 use Rattle.forward_two.proofs.Levels.{as-many}
@@ -15,13 +16,15 @@ use Rattle.forward_two.proofs.undo_filtered.Statement.{statement}
 use Rattle.forward_two.proofs.undo_filtered.Tie as tie
 
 abbrev Inv-loop : tie.InvT-loop
-Inv-loop size samples dc₀ low₀ high₀ down height strip₀ r₀ dc low high strip r = (r ≤ size .height .0) × Planes size dc low high × (length strip ≡ 1296) × Through size samples (r * size .width .0) (blockOf dc low high)
+Inv-loop size samples dc₀ low₀ high₀ across height w strip₀ at₀ m₀ r₀ dc low high strip at m r =
+    let W = size .width .0 in
+    (r ≤ size .height .0) × Planes size dc low high × (length strip ≡ 1296) × Through size samples (r * W) (blockOf dc low high) × (at ≡ r * (256 * W)) × (m ≡ r * W)
 
 abbrev μ-loop : tie.MeasureT-loop
-μ-loop size samples dc₀ low₀ high₀ down height strip₀ r₀ dc low high strip r = size .height .0 - r
+μ-loop size samples dc₀ low₀ high₀ across height w strip₀ at₀ m₀ r₀ dc low high strip at m r = size .height .0 - r
 
 loop-holds : tie.Need-loop-holds Inv-loop μ-loop
-loop-holds c = let a = c .args in (omega arith, c .pre .1, refl, through-as (0 * a .size .width .0) (omega arith) (through-none (a .size) (a .samples .now) (blockOf (a .dc .now) (a .low .now) (a .high .now))))
+loop-holds c = let s = c .before .before in let a = s .args in (omega arith, s .pre .1, refl, through-as (0 * a .size .width .0) (omega arith) (through-none (a .size) (a .samples .now) (blockOf (a .dc .now) (a .low .now) (a .high .now))), omega arith, omega arith)
 
 undo-row-requires : tie.Need-undo-row-requires Inv-loop μ-loop
 undo-row-requires c κs =
@@ -29,12 +32,29 @@ undo-row-requires c κs =
     let f = w .before in
     let test = f .before in
     let l = test .before in
-    let s = l .before in
+    let s = l .before .before .before in
     let v = l .loop .inv in
     let z = s .pre .0 .0 in (
       record { sized = z; below = omega (arith, test .loop-test); beside = z .wide; of-samples = s .pre .0 .1; of-strip = v .2 },
-      (v .1, (record { top = f .first-row .ensures; bottom = w .windows-down .ensures }, v .3)),
+      ((v .4, v .5), (v .1, (record { top = f .first-row .ensures; bottom = w .windows-down .ensures }, v .3))),
     )
+
+-- the row of macroblocks ends in the picture
+low : (c : tie.In-loop Inv-loop μ-loop) → let l = c .before .loop in let W = c .before .before .before .before .args .size .width .0 in (l .m + W ≤ l .at + 256 * W) × (l .at + 256 * W ≤ 55507200)
+low c =
+    let l = c .before in
+    let s = l .before .before .before in
+    let a = s .args in
+    let z = s .pre .0 .0 in
+    let W = a .size .width .0 in
+    let p = place-low (a .size) z (16 * l .loop .r + 15) (16 * W - 1) refl (omega (arith, c .loop-test)) (omega (arith, z .wide)) in
+    (omega (arith, l .loop .inv .4, l .loop .inv .5), omega (arith, p, l .loop .inv .4, z .wide))
+
+add-at : tie.Need-add-at Inv-loop μ-loop
+add-at c = omega (arith, low (c .before .before .before .before .before .before .before .before .before .before .before))
+
+add-m : tie.Need-add-m Inv-loop μ-loop
+add-m c = omega (arith, low (c .before .before .before .before .before .before .before .before .before .before .before))
 
 loop-again : tie.Need-loop-again Inv-loop μ-loop
 loop-again c =
@@ -43,26 +63,28 @@ loop-again c =
     let l = test .before in
     let v = l .loop .inv in
     let k = d .undo-row .kept in
-    let W = l .before .args .size .width .0 in (
+    let W = l .before .before .before .args .size .width .0 in (
       omega (arith, test .loop-test),
-      record { of-dc = k .1 .1 .1 .0 ∙ v .1 .of-dc; of-low = k .1 .1 .1 .1 .0 ∙ v .1 .of-low; of-high = k .1 .1 .1 .1 .1 .0 ∙ v .1 .of-high },
+      record { of-dc = k .1 .1 .1 .1 .0 ∙ v .1 .of-dc; of-low = k .1 .1 .1 .1 .1 .0 ∙ v .1 .of-low; of-high = k .1 .1 .1 .1 .1 .1 .0 ∙ v .1 .of-high },
       d .undo-row .ensures .1,
       through-as ((l .loop .r + 1) * W) (sym (add-mul (l .loop .r) 1 W ∙ omega arith)) (d .undo-row .ensures .0),
+      omega (arith, v .4),
+      omega (arith, v .5),
     )
 
 same-length : tie.Need-same-length Inv-loop μ-loop
-same-length c = let l = c .before in l .loop .inv .1 .of-dc ∙ sym (l .before .pre .1 .of-dc)
+same-length c = let l = c .before in l .loop .inv .1 .of-dc ∙ sym (l .before .before .before .pre .1 .of-dc)
 
 same-length-2 : tie.Need-same-length-2 Inv-loop μ-loop
-same-length-2 c = let l = c .before in l .loop .inv .1 .of-low ∙ sym (l .before .pre .1 .of-low)
+same-length-2 c = let l = c .before in l .loop .inv .1 .of-low ∙ sym (l .before .before .before .pre .1 .of-low)
 
 same-length-3 : tie.Need-same-length-3 Inv-loop μ-loop
-same-length-3 c = let l = c .before in l .loop .inv .1 .of-high ∙ sym (l .before .pre .1 .of-high)
+same-length-3 c = let l = c .before in l .loop .inv .1 .of-high ∙ sym (l .before .before .before .pre .1 .of-high)
 
 returns : tie.Need-returns Inv-loop μ-loop
 returns c =
     let l = c .before in
-    let s = l .before in
+    let s = l .before .before .before in
     let a = s .args in
     let W = a .size .width .0 in
     let H = a .size .height .0 in
@@ -76,4 +98,4 @@ returns c =
 pub undo-filtered-spec : {M : Type 1} → statement M
 undo-filtered-spec =
     tie.close
-    (tie.spec Inv-loop μ-loop (λ c. search needs) loop-holds (λ c κs. search needs) (λ c κs. omega arith) (λ c. search needs) undo-row-requires (λ c. omega arith) (λ c. omega arith) loop-again same-length same-length-2 same-length-3 returns)
+    (tie.spec Inv-loop μ-loop (λ c. search needs) (λ c. search needs) (λ c. search needs) loop-holds (λ c κs. search needs) (λ c κs. omega arith) (λ c. search needs) undo-row-requires (λ c. search needs) add-at add-m (λ c. omega arith) (λ c. omega arith) loop-again same-length same-length-2 same-length-3 returns)

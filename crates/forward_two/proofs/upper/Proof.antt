@@ -1,8 +1,7 @@
 -- The first row of macroblocks has made these rows itself; the others fetch them.
-use Prim.Native.Nat.{_+_, _*_, _≤_}
+use Prim.Native.Nat.{_+_, _*_}
 use mathlib.Core.Path.{_≡_, _∙_}
 use native.Mathlib.Omega.{arith}
-use Rattle.picture.proofs.CheckLaws.{few}
 use Rattle.forward_two_cores.specs.Blocks.{blockOf}
 use Rattle.forward_two_edges.proofs.Strips.{holds-as}
 use Rattle.forward_two.proofs.Joined.{rows-fetched, group-inside, not-first}
@@ -10,29 +9,20 @@ use borrow.Author.Needs.{needs}
 use Rattle.forward_two.proofs.upper.Statement.{statement}
 use Rattle.forward_two.proofs.upper.Tie as tie
 
--- the group lies in the picture
-inside : (s : tie.Start) → let a = s .args in let W = a .size .width .0 in (a .r * W + a .c + a .n ≤ W * a .size .height .0) × (W * a .size .height .0 ≤ 216825)
-inside s =
-    let a = s .args in
-    let g = s .pre .0 in
-    (group-inside (a .size .width .0) (a .size .height .0) (a .r) (a .c) (a .n) (g .below) (s .pre .1 .1 .0 .2), few (a .size .width .0) (a .size .height .0) (g .sized .most-wide) (g .sized .most-tall))
-
 returns : tie.Need-returns
 returns c =
     let s = c .before in
     let a = s .args in
-    let h = s .pre .1 .1 .1 .1 .0 in
+    let h = s .pre .1 .1 .1 .1 .1 .0 in
     let none : a .first ≡ 0 = omega (arith, c .if1) in
     (holds-as (a .r) (a .c) 0 18 0 (16 * a .n) (omega (arith, none)) (omega arith) (omega arith) (omega arith) h, (h, s .pre .0 .of-strip))
 
-mul-fetch : tie.Need-mul-fetch
-mul-fetch c = omega (arith, inside (c .before))
-
-add-fetch : tie.Need-add-fetch
-add-fetch c = omega (arith, inside (c .before))
-
 fetch-requires : tie.Need-fetch-requires
-fetch-requires c κs = let s = c .before .before in let p = s .pre .1 .0 in ((omega (arith, inside s, p .of-dc), omega (arith, inside s, p .of-low), omega (arith, inside s, p .of-high)), (s .pre .1 .1 .0 .1, s .pre .0 .of-strip))
+fetch-requires c κs =
+    let s = c .before .before in
+    let a = s .args in
+    let h = s .pre .1 in
+    (group-inside (a .size) (a .r) (a .c) (a .n) (a .m) (h .1 .1 .1 .0) (s .pre .0 .below) (h .1 .0 .2) (h .0), (h .1 .0 .1, s .pre .0 .of-strip))
 
 returns-2 : tie.Need-returns-2
 returns-2 c =
@@ -45,11 +35,11 @@ returns-2 c =
     let h = s .pre .1 .1 .1 in
     let two = not-first (a .first) (a .r) (h .0) (omega (arith, t .if1)) in
     let e = d .fetch .ensures in
-    let both = rows-fetched (a .size) (a .samples .now) (g .sized .wide) (a .r) (a .c) (a .n) (g .below) (k .2) (blockOf (a .dc .now) (a .low .now) (a .high .now)) (two .1) (k .1) (h .1 .1) (e .0) (e .1)
-    (holds-as (a .r) (a .c) 2 18 0 (16 * a .n + 2) (omega (arith, two)) (omega arith) (omega arith) (omega arith) (h .1 .0)) in
+    let both = rows-fetched (a .size) (a .samples .now) (g .sized .wide) (a .r) (a .c) (a .n) (g .below) (k .2) (blockOf (a .dc .now) (a .low .now) (a .high .now)) (a .m) (h .1 .0) (two .1) (k .1) (h .1 .1 .1) (e .0) (e .1)
+    (holds-as (a .r) (a .c) 2 18 0 (16 * a .n + 2) (omega (arith, two)) (omega arith) (omega arith) (omega arith) (h .1 .1 .0)) in
     (both .0, (holds-as (a .r) (a .c) (a .first) 18 0 (16 * a .n + 2) (omega (arith, two)) (omega arith) (omega arith) (omega arith) (both .1), e .1 .len ∙ g .of-strip))
 
 pub upper-spec : {M : Type 1} → statement M
 upper-spec =
     tie.close
-    (tie.spec returns (λ c. search needs) mul-fetch add-fetch fetch-requires (λ c. search needs) returns-2)
+    (tie.spec returns fetch-requires (λ c. search needs) returns-2)

@@ -1,14 +1,15 @@
--- Row after row, and then the blocks are the squares of the level's grid.
+-- Row after row, each of which begins where the one before ends; and then the blocks are the squares of the level's grid.
 use Prim.Native.Nat.{ℕ, _+_, _-_, _*_, _≤_}
-use mathlib.Core.Path.{_≡_, refl, sym, _∙_}
+use mathlib.Core.Path.{_≡_, refl}
 use mathlib.Core.List.{List}
 use native.Mathlib.Omega.{arith}
-use native.Mathlib.Nat.{add-mul}
 use borrow.Author.Needs.{needs}
 use lib.ListN.{length}
 use lib.IntN.{ℤ}
 use Rattle.lifting.specs.Program.{undo}
 use Rattle.figures.specs.Figures.{core}
+use Rattle.picture.proofs.CheckLaws.{few}
+use Rattle.grid.proofs.Rows.{row-inside}
 use Rattle.forward_two_cores.specs.Blocks.{blockOf, squareIn, Among, Replaced}
 use Rattle.forward_two_cores.proofs.Stores.{among-none, among-as, among-more}
 use Rattle.forward_two_cores.proofs.Whole.{sample-block, second-undone}
@@ -16,29 +17,51 @@ use Rattle.forward_two_cores.proofs.undo_cores.Statement.{statement}
 use Rattle.forward_two_cores.proofs.undo_cores.Tie as tie
 
 abbrev Inv-loop : tie.InvT-loop
-Inv-loop size samples dc₀ low₀ high₀ down height r₀ dc low high r =
+Inv-loop size samples dc₀ low₀ high₀ across down w at₀ m₀ r₀ dc low high at m r =
     let W = size .width .0 in
-    (r ≤ height) × (length dc ≡ length dc₀) × (length low ≡ length low₀) × (length high ≡ length high₀)
+    (r ≤ down) × (length dc ≡ length dc₀) × (length low ≡ length low₀) × (length high ≡ length high₀)
     × Replaced (Among 0 (r * W)) (λ t. undo core (squareIn W samples t)) (blockOf dc₀ low₀ high₀) (blockOf dc low high)
+    × (at ≡ r * (256 * W)) × (m ≡ r * W)
 
 abbrev μ-loop : tie.MeasureT-loop
-μ-loop size samples dc₀ low₀ high₀ down height r₀ dc low high r = height - r
+μ-loop size samples dc₀ low₀ high₀ across down w at₀ m₀ r₀ dc low high at m r = down - r
+
+-- the row ends in the picture, which is small
+inside : (c : tie.In-loop Inv-loop μ-loop) → let l = c .before in let a = l .before .before .before .args in let W = a .size .width .0 in
+    (l .loop .at + 256 * W ≤ 256 * (W * a .size .height .0)) × (l .loop .m + W ≤ W * a .size .height .0) × (W * a .size .height .0 ≤ 216825)
+inside c =
+    let l = c .before in
+    let s = l .before .before .before in
+    let W = s .args .size .width .0 in
+    let H = s .args .size .height .0 in
+    let h = row-inside (l .loop .r) H W (omega arith) in
+    (omega (arith, l .loop .inv .5), omega (arith, l .loop .inv .6), few W H (s .pre .0 .most-wide) (s .pre .0 .most-tall))
+
+-- the turn in which a row was undone
+abbrev turn : tie.After-high Inv-loop μ-loop → tie.In-loop Inv-loop μ-loop
+turn c = c .before .before .before .before .before .before .before
 
 loop-holds : tie.Need-loop-holds Inv-loop μ-loop
-loop-holds c = (omega arith, refl, refl, refl, among-as _ 0 (0 * c .args .size .width .0) refl (omega arith) (among-none 0 _ _))
+loop-holds c = (omega arith, refl, refl, refl, among-as _ 0 (0 * c .before .before .args .size .width .0) refl (omega arith) (among-none 0 _ _), omega arith, omega arith)
 
 undo-row-requires : tie.Need-undo-row-requires Inv-loop μ-loop
-undo-row-requires c κs = let s = c .before .before .before .before .before in let n = s .pre .1 .1 in ((s .pre .0, omega arith), (s .pre .1 .0, (omega (arith, n), omega (arith, n), omega (arith, n))))
+undo-row-requires c κs =
+    let l = c .before .before .before .before in
+    let s = l .before .before .before in
+    let v = l .loop .inv in
+    let n = s .pre .1 .1 in
+    ((s .pre .0, omega arith), ((v .5, v .6), (s .pre .1 .0, (omega (arith, n), omega (arith, n), omega (arith, n)))))
 
 loop-again : tie.Need-loop-again Inv-loop μ-loop
 loop-again c =
     let d = c .before .before .before in
     let l = d .before .before .before .before .before in
     let v = l .loop .inv in
-    let W = l .before .args .size .width .0 in
+    let a = l .before .before .before .args in
+    let W = a .size .width .0 in
     let r = l .loop .r in
-    let f : ℕ → List ℤ = λ t. undo core (squareIn W (l .before .args .samples .now) t) in
-    (omega arith, omega arith, omega arith, omega arith, among-as f 0 ((r + 1) * W) refl (sym (add-mul r 1 W ∙ omega arith)) (among-more f 0 (r * W) (r * W + W) (omega arith) (omega arith) (v .4) (d .undo-row .ensures)))
+    let f : ℕ → List ℤ = λ t. undo core (squareIn W (a .samples .now) t) in
+    (omega arith, omega arith, omega arith, omega arith, among-as f 0 ((r + 1) * W) refl (omega arith) (among-more f 0 (r * W) (r * W + W) (omega arith) (omega arith) (v .4) (d .undo-row .ensures)), omega (arith, v .5), omega (arith, v .6))
 
 same-length : tie.Need-same-length Inv-loop μ-loop
 same-length c = c .before .loop .inv .1
@@ -52,7 +75,7 @@ same-length-3 c = c .before .loop .inv .3
 returns : tie.Need-returns Inv-loop μ-loop
 returns c =
     let l = c .before in
-    let s = l .before in
+    let s = l .before .before .before in
     let a = s .args in
     let W = a .size .width .0 in
     let H = a .size .height .0 in
@@ -66,4 +89,6 @@ returns c =
 pub undo-cores-spec : {M : Type 1} → statement M
 undo-cores-spec =
     tie.close
-    (tie.spec Inv-loop μ-loop (λ c. search needs) loop-holds undo-row-requires (λ c. omega arith) (λ c. omega arith) loop-again same-length same-length-2 same-length-3 returns)
+    (tie.spec Inv-loop μ-loop (λ c. search needs) (λ c. search needs) (λ c. search needs) loop-holds undo-row-requires
+    (λ c. omega (arith, inside (turn c))) (λ c. omega (arith, inside (turn c))) (λ c. omega (arith, inside (turn c)))
+    (λ c. omega arith) (λ c. omega arith) loop-again same-length same-length-2 same-length-3 returns)

@@ -1,40 +1,59 @@
--- The row's fours, unfiltered, are the unfiltered samples there.
-use Prim.Native.Nat.{_+_, _*_, _<_, _≤_}
-use mathlib.Core.Path.{refl}
+-- Four after four along the row; unfiltered, they are the unfiltered samples there.
+use Prim.Native.Nat.{_+_, _-_, _*_, _<_, _≤_}
+use mathlib.Core.Path.{_≡_}
 use native.Mathlib.Omega.{arith}
 use Rattle.picture.specs.Sizes.{macroblocks}
-use Rattle.forward_two_edges.proofs.Strips.{place-low, row-filled}
-use borrow.Author.Needs.{needs}
+use Rattle.forward_two_edges.specs.Strip.{Spread}
+use Rattle.forward_two_edges.proofs.Strips.{place-low, foursFrom, spread-none, spread-more, row-filled}
 use Rattle.forward_two_edges.proofs.edge_row.Statement.{statement}
 use Rattle.forward_two_edges.proofs.edge_row.Tie as tie
 
--- the row's place among the samples, and that of the end of its fours
-low : (s : tie.Start) → let W = s .args .size .width .0 in let y = 16 * s .args .r + s .args .y in
-    (y * (16 * W) + (16 * s .args .c + 2 + 4 * s .args .n) < 256 * macroblocks (s .args .size)) × (256 * macroblocks (s .args .size) ≤ 55507200)
-low s = let a = s .args in place-low (a .size) (s .pre .0 .sized) (16 * a .r + a .y) (16 * a .c + 2 + 4 * a .n) (s .pre .1 .1 .1) (omega (arith, s .pre .1 .0))
+abbrev Inv-loop : tie.InvT-loop
+Inv-loop r c samples at y n strip₀ l₀ strip l = (l ≤ n) × Spread (72 * y + 2) 1 (4 * l) (foursFrom samples 1 (at + 2)) strip₀ strip
 
-mul-fours-2 : tie.Need-mul-fours-2
-mul-fours-2 c = omega (arith, low c)
+abbrev μ-loop : tie.MeasureT-loop
+μ-loop r c samples at y n strip₀ l₀ strip l = n - l
 
-add-fours-2 : tie.Need-add-fours-2
-add-fours-2 c = omega (arith, low c)
+-- the place of the end of the row's fours
+low : (s : tie.Start Inv-loop μ-loop) → (s .args .at + 2 + 4 * s .args .n < 256 * macroblocks (s .args .size)) × (256 * macroblocks (s .args .size) ≤ 55507200)
+low s = let a = s .args in place-low (a .size) (s .pre .0 .sized) (16 * a .r + a .y) (16 * a .c + 2 + 4 * a .n) (omega (arith, s .pre .1 .0)) (s .pre .1 .1 .1 .1) (omega (arith, s .pre .1 .1 .0))
 
-add-fours-3 : tie.Need-add-fours-3
-add-fours-3 c = omega (arith, low c)
+loop-holds : tie.Need-loop-holds Inv-loop μ-loop
+loop-holds c = (omega arith, spread-none (72 * c .args .y + 2) 1 _ _)
 
-fours-requires : tie.Need-fours-requires
-fours-requires c κs = let s = c .before in ((omega arith, omega arith, omega arith), (omega (arith, low s, s .pre .0 .of-samples), omega (arith, s .pre .0 .of-strip, s .pre .1 .0)))
+add-unfilter-four : tie.Need-add-unfilter-four Inv-loop μ-loop
+add-unfilter-four c = omega (arith, low (c .before .before))
 
-returns : tie.Need-returns
-returns c =
+add-unfilter-four-2 : tie.Need-add-unfilter-four-2 Inv-loop μ-loop
+add-unfilter-four-2 c = omega (arith, low (c .before .before))
+
+unfilter-four-requires : tie.Need-unfilter-four-requires Inv-loop μ-loop
+unfilter-four-requires c κs =
+    let l = c .before .before in
+    let s = l .before in
+    (omega (arith, low s, s .pre .0 .of-samples), (omega arith, omega (arith, l .loop .inv .1 .len, s .pre .0 .of-strip, s .pre .1 .1 .0)))
+
+loop-again : tie.Need-loop-again Inv-loop μ-loop
+loop-again c =
     let d = c .before in
-    let s = d .before .before in
+    let l = d .before .before .before in
+    let a = l .before .args in
+    (omega arith, spread-more (a .samples .now) 1 (a .at + 2) (72 * a .y + 2) 1 (l .loop .l) _ _ (omega arith) (omega arith) (omega arith) (l .loop .inv .1) (d .unfilter-four .ensures))
+
+same-length : tie.Need-same-length Inv-loop μ-loop
+same-length c = c .before .loop .inv .1 .len
+
+returns : tie.Need-returns Inv-loop μ-loop
+returns c =
+    let l = c .before in
+    let s = l .before in
     let a = s .args in
     let g = s .pre .0 in
-    let h = s .pre .1 in
-    row-filled (a .size) (a .samples .now) (g .sized .wide) (g .sized .tall) (g .of-samples) (a .r) (a .c) (a .y) (a .n) _ (h .0 .1) (h .0 .2) (h .1 .0) (h .1 .1) refl (d .fours .ensures)
+    let h = s .pre .1 .1 in
+    let all : l .loop .l ≡ a .n = omega arith in
+    row-filled (a .size) (a .samples .now) (g .sized .wide) (g .sized .tall) (g .of-samples) (a .r) (a .c) (a .y) (a .n) (a .at + 2) (h .0 .1) (h .0 .2) (h .1 .0) (h .1 .1) (omega (arith, s .pre .1 .0)) (rw all at (l .loop .inv .1))
 
 pub edge-row-spec : {M : Type 1} → statement M
 edge-row-spec =
     tie.close
-    (tie.spec (λ c. search needs) (λ c. search needs) (λ c. search needs) (λ c. search needs) mul-fours-2 (λ c. search needs) add-fours-2 add-fours-3 (λ c. search needs) (λ c. search needs) fours-requires (λ c. search needs) returns)
+    (tie.spec Inv-loop μ-loop loop-holds add-unfilter-four (λ c. omega arith) add-unfilter-four-2 (λ c. omega arith) (λ c. omega arith) (λ c. omega arith) (λ c. omega arith) unfilter-four-requires (λ c. omega arith) (λ c. omega arith) loop-again same-length returns)

@@ -8,11 +8,11 @@ use Rattle.forward_two_windows.proofs.window_row.Statement.{statement}
 use Rattle.forward_two_windows.proofs.window_row.Tie as tie
 
 abbrev Inv-loop : tie.InvT-loop
-Inv-loop size r c samples v n strip₀ b₀ strip b =
+Inv-loop size r c samples at v n strip₀ b₀ strip b =
     (b ≤ 4) × ((k : ℕ) → k ≤ 16 * b + 2 → k ≤ 4 * n + 2 → Holds size samples r c (4 * v + 2) (4 * v + 6) 2 k strip) × Kept (4 * v + 2) (4 * v + 6) 2 72 strip₀ strip
 
 abbrev μ-loop : tie.MeasureT-loop
-μ-loop size r c samples v n strip₀ b₀ strip b = 4 - b
+μ-loop size r c samples at v n strip₀ b₀ strip b = 4 - b
 
 loop-holds : tie.Need-loop-holds Inv-loop μ-loop
 loop-holds c = (omega arith, λ k h g. record { there = λ y x e f m o p q. absurd (omega arith) }, kept-none (4 * c .args .v + 2) (4 * c .args .v + 6) 2 72 (c .args .strip .now))
@@ -22,8 +22,8 @@ windows-at-requires c κs =
     let l = c .before .before in
     let s = l .before in
     let g = s .pre .0 in
-    let h = s .pre .1 in
-    (record { sized = g .sized; below = g .below; beside = g .beside; of-samples = g .of-samples; of-strip = l .loop .inv .2 .len ∙ g .of-strip }, ((h .0 .0, omega (arith, h)), (h .1 .0, omega (arith, h))))
+    let h = s .pre .1 .1 in
+    (record { sized = g .sized; below = g .below; beside = g .beside; of-samples = g .of-samples; of-strip = l .loop .inv .2 .len ∙ g .of-strip }, (s .pre .1 .0, ((h .0 .0, omega (arith, h)), (h .1 .0, omega (arith, h)))))
 
 loop-again : tie.Need-loop-again Inv-loop μ-loop
 loop-again c =
@@ -36,12 +36,12 @@ loop-again c =
     let t = 4 * a .v + 2 in
     let b = 4 * a .v + 6 in
     let m = 16 * l .loop .b + 2 in (
-      omega (arith, s .pre .1 .0),
+      omega (arith, s .pre .1 .1 .0),
       λ k h g.
           holds-beside (a .r) (a .c) t b 2 m k
-          (holds-kept (a .r) (a .c) t b 2 m t b (4 * (4 * l .loop .b) + 2) (4 * (4 * l .loop .b) + 18) (omega (arith, s .pre .1 .0)) (λ y x i j n o p q u w. absurd (omega arith)) (v .1 m (omega arith) (omega arith)) (e .1))
-          (holds-as (a .r) (a .c) t b m k (omega arith) (omega arith) (omega arith) (omega arith) (e .0 k (omega arith) (omega (arith, s .pre .1)))),
-      kept-then (v .2) (kept-as t b 2 72 (omega arith) (omega arith) (omega arith) (omega (arith, s .pre .1 .0)) (e .1)),
+          (holds-kept (a .r) (a .c) t b 2 m t b (4 * (4 * l .loop .b) + 2) (4 * (4 * l .loop .b) + 18) (omega (arith, s .pre .1 .1 .0)) (λ y x i j n o p q u w. absurd (omega arith)) (v .1 m (omega arith) (omega arith)) (e .1))
+          (holds-as (a .r) (a .c) t b m k (omega arith) (omega arith) (omega arith) (omega arith) (e .0 k (omega arith) (omega (arith, s .pre .1 .1)))),
+      kept-then (v .2) (kept-as t b 2 72 (omega arith) (omega arith) (omega arith) (omega (arith, s .pre .1 .1 .0)) (e .1)),
     )
 
 same-length : tie.Need-same-length Inv-loop μ-loop

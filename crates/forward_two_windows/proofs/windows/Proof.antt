@@ -1,34 +1,45 @@
--- Window row after window row.
-use Prim.Native.Nat.{_+_, _-_, _*_, _≤_}
-use mathlib.Core.Path.{_≡_, _∙_}
+-- Window row after window row, each begins four rows of samples after the one before.
+use Prim.Native.Nat.{ℕ, _+_, _-_, _*_, _≤_}
+use mathlib.Core.Path.{_≡_, _∙_, ap}
 use native.Mathlib.Omega.{arith}
+use borrow.Author.Needs.{needs}
+use Rattle.picture.specs.Level.{cell}
 use Rattle.forward_two_edges.specs.Strip.{Holds, Kept}
-use Rattle.forward_two_edges.proofs.Strips.{holds-kept, holds-under, holds-as, kept-none, kept-as, kept-then}
+use Rattle.forward_two_edges.proofs.Strips.{place-low, holds-kept, holds-under, holds-as, kept-none, kept-as, kept-then}
 use Rattle.forward_two_windows.proofs.windows.Statement.{statement}
 use Rattle.forward_two_windows.proofs.windows.Tie as tie
 
 abbrev Inv-loop : tie.InvT-loop
-Inv-loop size r c samples down n strip₀ v₀ strip v = (v ≤ down) × Holds size samples r c 2 (4 * v + 2) 2 (4 * n + 2) strip × Kept 2 (4 * down + 2) 2 72 strip₀ strip
+Inv-loop size r c samples at down n strip₀ across row₀ v₀ strip row v =
+    (v ≤ down) × Holds size samples r c 2 (4 * v + 2) 2 (4 * n + 2) strip × Kept 2 (4 * down + 2) 2 72 strip₀ strip × (row ≡ cell (4 * size .width .0) (16 * r + 4 * v + 2) (16 * c))
 
 abbrev μ-loop : tie.MeasureT-loop
-μ-loop size r c samples down n strip₀ v₀ strip v = down - v
+μ-loop size r c samples at down n strip₀ across row₀ v₀ strip row v = down - v
 
 loop-holds : tie.Need-loop-holds Inv-loop μ-loop
-loop-holds c = (omega arith, record { there = λ y x e f m o p q. absurd (omega arith) }, kept-none 2 (4 * c .args .down + 2) 2 72 (c .args .strip .now))
+loop-holds c = let s = c .before in (omega arith, record { there = λ y x e f m o p q. absurd (omega arith) }, kept-none 2 (4 * s .args .down + 2) 2 72 (s .args .strip .now), omega (arith, s .pre .1 .0))
 
 window-row-requires : tie.Need-window-row-requires Inv-loop μ-loop
 window-row-requires c κs =
     let l = c .before .before in
-    let s = l .before in
+    let s = l .before .before in
     let g = s .pre .0 in
-    let h = s .pre .1 in
-    (record { sized = g .sized; below = g .below; beside = g .beside; of-samples = g .of-samples; of-strip = l .loop .inv .2 .len ∙ g .of-strip }, ((omega (arith, h), h .0 .1), (omega (arith, h), h .1 .1)))
+    let h = s .pre .1 .1 in
+    (record { sized = g .sized; below = g .below; beside = g .beside; of-samples = g .of-samples; of-strip = l .loop .inv .2 .len ∙ g .of-strip }, (l .loop .inv .3, ((omega (arith, h), h .0 .1), (omega (arith, h), h .1 .1))))
+
+add-row : tie.Need-add-row Inv-loop μ-loop
+add-row c =
+    let l = c .before .before .before .before in
+    let s = l .before .before in
+    let a = s .args in
+    let z = s .pre .0 .sized in
+    omega (arith, z .most-wide, place-low (a .size) z (16 * a .r + 4 * l .loop .v + 2) (16 * a .c) (l .loop .inv .3) (omega (arith, s .pre .1 .1 .1)) (omega (arith, s .pre .0 .beside)))
 
 loop-again : tie.Need-loop-again Inv-loop μ-loop
 loop-again c =
     let d = c .before in
     let l = d .before .before .before in
-    let s = l .before in
+    let s = l .before .before in
     let a = s .args in
     let v = l .loop .inv in
     let e = d .window-row .ensures in
@@ -37,17 +48,22 @@ loop-again c =
     let k = 4 * a .n + 2 in (
       omega arith,
       holds-as (a .r) (a .c) 2 (4 * (l .loop .v + 1) + 2) 2 k (omega arith) (omega arith) (omega arith) (omega arith)
-          (holds-under (a .r) (a .c) 2 m b 2 k (holds-kept (a .r) (a .c) 2 m 2 k m b 2 72 (omega (arith, s .pre .1 .0)) (λ y x i j n o p q u w. absurd (omega arith)) (v .1) (e .1)) (e .0)),
+          (holds-under (a .r) (a .c) 2 m b 2 k (holds-kept (a .r) (a .c) 2 m 2 k m b 2 72 (omega (arith, s .pre .1 .1 .0)) (λ y x i j n o p q u w. absurd (omega arith)) (v .1) (e .1)) (e .0)),
       kept-then (v .2) (kept-as 2 (4 * a .down + 2) 2 72 (omega arith) (omega arith) (omega arith) (omega arith) (e .1)),
+      omega (arith, v .3),
     )
 
 same-length : tie.Need-same-length Inv-loop μ-loop
 same-length c = c .before .loop .inv .2 .len
 
 returns : tie.Need-returns Inv-loop μ-loop
-returns c = let l = c .before in let a = l .before .args in (holds-as (a .r) (a .c) 2 (4 * a .down + 2) 2 (4 * a .n + 2) (omega arith) (omega arith) (omega arith) (omega arith) (l .loop .inv .1), l .loop .inv .2)
+returns c =
+    let l = c .before in
+    let a = l .before .before .args in
+    let all : l .loop .v ≡ a .down = omega arith in
+    (holds-as (a .r) (a .c) 2 (4 * a .down + 2) 2 (4 * a .n + 2) (omega arith) (omega arith) (omega arith) (omega arith) (l .loop .inv .1), (l .loop .inv .2, l .loop .inv .3 ∙ ap (λ (y : ℕ). cell (4 * a .size .width .0) y (16 * a .c)) (omega (arith, all))))
 
 pub windows-spec : {M : Type 1} → statement M
 windows-spec =
     tie.close
-    (tie.spec Inv-loop μ-loop loop-holds window-row-requires (λ c. omega arith) (λ c. omega arith) loop-again same-length returns)
+    (tie.spec Inv-loop μ-loop (λ c. search needs) loop-holds window-row-requires (λ c. search needs) add-row (λ c. omega arith) (λ c. omega arith) loop-again same-length returns)

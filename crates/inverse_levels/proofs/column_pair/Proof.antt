@@ -6,7 +6,8 @@ use lib.ListN.{length}
 use Rattle.lifting.specs.Program.{Program, run, each, _then_}
 use Rattle.picture.specs.Level.{cell, fourFilterAt, columnFilters}
 use Rattle.inverse_levels.proofs.Columns.{columns-apart}
-use Rattle.inverse_levels.proofs.Loops.{each-none, each-more, next-turn}
+use Rattle.inverse_levels.proofs.Loops.{each-none, each-more}
+use Rattle.grid.proofs.Rows.{row-inside}
 use Rattle.inverse_levels.proofs.column_pair.Statement.{statement}
 use Rattle.inverse_levels.proofs.column_pair.Tie as tie
 
@@ -21,7 +22,7 @@ abbrev μ-loop : tie.MeasureT-loop
 μ-loop grid₀ p q c w first uses j₀ grid j = q - j
 
 room : (c : tie.At-loop Inv-loop μ-loop) → c .loop .j < c .before .args .q - 1 → (c .loop .j + 1) * (16 * c .before .args .p) + 16 * c .before .args .p ≤ length (c .before .args .grid .now)
-room c h = let a = c .before .args in omega (arith, next-turn (c .loop .j + 1) (a .q) (16 * a .p) (omega arith))
+room c h = let a = c .before .args in omega (arith, row-inside (c .loop .j + 1) (a .q) (16 * a .p) (omega arith))
 
 place : (p c j : ℕ) → 2 * (4 * p) + c + j * (4 * (4 * p)) ≡ cell p (4 * j + 2) c
 place p c j = omega arith

@@ -5,7 +5,8 @@ use native.Mathlib.Omega.{arith}
 use lib.ListN.{length}
 use Rattle.lifting.specs.Program.{run, each}
 use Rattle.inverse_levels.specs.Stages.{windowRow}
-use Rattle.inverse_levels.proofs.Loops.{each-none, each-more, next-turn}
+use Rattle.inverse_levels.proofs.Loops.{each-none, each-more}
+use Rattle.grid.proofs.Rows.{row-inside}
 use Rattle.inverse_levels.proofs.window_rows.Statement.{statement}
 use Rattle.inverse_levels.proofs.window_rows.Tie as tie
 
@@ -28,7 +29,7 @@ asked c κs =
     let l = c .before .before in
     let s = l .before in
     let a = s .args in
-    (omega (arith, next-turn (a .b + l .loop .k + 1) (a .q) (a .p) (omega (arith, s .pre .1)), l .loop .inv .1, s .pre .0), (s .pre .1 .0, s .pre .1 .1, omega (arith, s .pre .1)))
+    (omega (arith, row-inside (a .b + l .loop .k + 1) (a .q) (a .p) (omega (arith, s .pre .1)), l .loop .inv .1, s .pre .0), (s .pre .1 .0, s .pre .1 .1, omega (arith, s .pre .1)))
 
 pub window-rows-spec : {M : Type 1} → statement M
 window-rows-spec =

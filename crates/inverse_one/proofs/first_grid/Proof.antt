@@ -1,74 +1,72 @@
--- The grid is filled from the last macroblock to the first.
-use Prim.Native.Nat.{ℕ, _+_, _-_, _*_, _/_, _%_, _≤_, _<_}
-use mathlib.Core.Path.{refl, _∙_, ap}
+-- Row after row: the macroblocks before the next row's first are there, and the places are those of row r.
+use Prim.Native.Nat.{ℕ, _+_, _-_, _*_, _≤_, _<_}
+use mathlib.Core.Path.{_≡_, refl, ap}
+use mathlib.Core.Logic.{by-cases, Dec·and}
 use native.Mathlib.Omega.{arith}
-use native.Mathlib.Decide.{ℕ-discrete}
-use native.Mathlib.Nat.{mod-lt, div-lt-iff-lt-mul, mul-le-mul-right}
-use Rattle.lifting.specs.Program.{at, put}
-use Rattle.lifting.proofs.Bits.{back}
-use Rattle.picture.specs.Level.{cell, square}
-use Rattle.picture.specs.Planes.{table, coefficients, firstGrid}
+use native.Mathlib.Decide.{decLt, decLe}
+use native.Mathlib.Nat.{add-mul}
+use Rattle.picture.specs.Planes.{firstGrid}
+use Rattle.picture.proofs.CheckLaws.{few}
 use Rattle.inverse_levels.specs.Filled.{Filled}
-use Rattle.inverse_levels.proofs.Filled.{filled-none, filled-one, filled-join, filled-grid}
+use Rattle.inverse_levels.proofs.Filled.{filled-none, filled-join, filled-grid}
+use Rattle.grid.proofs.Rows.{row-inside}
+use Rattle.inverse_one.specs.Rows.{planeNumbers, Between}
 use Rattle.inverse_one.proofs.first_grid.Statement.{statement}
 use Rattle.inverse_one.proofs.first_grid.Tie as tie
 
 abbrev Inv-loop : tie.InvT-loop
-Inv-loop view₀ dc low p w m₀ view m = (m ≤ m₀) × Filled p (λ s. coefficients (at dc s) (λ k. at low (15 * s + k))) view₀ (λ s. (m ≤ s) × (s < m₀)) view
+Inv-loop view₀ size dc low across down w at₀ m₀ r₀ view at m r =
+    (r ≤ size .height .0) × (at ≡ r * (16 * size .width .0)) × (m ≡ r * size .width .0) × Filled (size .width .0) (planeNumbers dc low) view₀ (Between 0 m) view
 
 abbrev μ-loop : tie.MeasureT-loop
-μ-loop view₀ dc low p w m₀ view m = m
+μ-loop view₀ size dc low across down w at₀ m₀ r₀ view at m r = size .height .0 - r
 
-few : (s : tie.Start Inv-loop μ-loop) → s .args .size .width .0 * s .args .size .height .0 ≤ 216825
-few s = omega (arith, mul-le-mul-right (s .args .size .height .0) (s .pre .0 .most-wide), s .pre .0 .most-tall)
-
--- the square lies inside the grid
 module _ (h : tie.In-loop Inv-loop μ-loop) where
-  abbrev start : tie.Start Inv-loop μ-loop
-  start = h .before .before .before .before
+  abbrev l : tie.At-loop Inv-loop μ-loop
+  l = h .before
+
+  abbrev s : tie.Start Inv-loop μ-loop
+  s = l .before .before .before
 
   abbrev W : ℕ
-  W = start .args .size .width .0
+  W = s .args .size .width .0
 
-  abbrev m : ℕ
-  m = h .before .loop .m - 1
+  below : l .loop .r < s .args .size .height .0
+  below = omega (arith, h .loop-test)
 
-  wide : 0 < W
-  wide = start .pre .0 .wide
+  -- the row after this one begins in the grid or at its end
+  next : (l .loop .r + 1) * W ≤ 216825
+  next = omega (arith, add-mul (l .loop .r) 1 W, row-inside (l .loop .r) (s .args .size .height .0) W below, few W (s .args .size .height .0) (s .pre .0 .most-wide) (s .pre .0 .most-tall))
 
-  row : m / W < start .args .size .height .0
-  row = div-lt-iff-lt-mul wide .1 (omega (arith, h .before .loop .inv .0))
-
-  room : cell W (4 * (m / W) + 3) (4 * W) ≤ 16 * (W * start .args .size .height .0)
-  room = omega (arith, mul-le-mul-right (16 * W) row)
-
-  column : m % W < W
-  column = mod-lt m wide
+grid-row-requires : tie.Need-grid-row-requires Inv-loop μ-loop
+grid-row-requires c κs =
+    let h = c .before in
+    let v = l h .loop .inv in
+    ((s h .pre .0, below h), ((v .1, v .2), (omega (arith, v .3 .len, s h .pre .1 .0), s h .pre .1 .1)))
 
 loop-again : tie.Need-loop-again Inv-loop μ-loop
 loop-again c =
     let d = c .before in
-    let a = d .before in
-    let h = a .before .before in
-    let l = h .before .loop in
-    let s = start h in
-    let n = l .m - 1 in (
-      omega arith,
-      filled-join (wide h) (λ b. (n ≤ b) × (b < W h * s .args .size .height .0)) (λ b. ℕ-discrete b n) (λ b z o. (omega (arith, o), z .1)) (λ b z. (omega arith, z .1))
-          (λ b z. (omega arith, omega (arith, l .inv .0))) (λ b k z o. refl) (l .inv .1)
-          (filled-one (wide h) (s .args .size .height .0) n _ (omega (arith, l .inv .0)) (omega (arith, l .inv .1 .len, s .pre .1))
-          (d .put-coefficients .ensures
-          ∙ ap (λ x. put (square (4 * W h) (cell (W h) (4 * (n / W h)) (4 * (n % W h)))) (table 16 (coefficients x (λ k. at (s .args .low .now) (15 * n + k)))) (l .view)) (back (a .put-coefficients-arg2 .given)))),
+    let h = d .before .before in
+    let v = l h .loop .inv in
+    let m = l h .loop .m in
+    let row = add-mul (l h .loop .r) 1 (W h) in (
+      omega (arith, below h),
+      omega (arith, v .1, row),
+      omega (arith, v .2, row),
+      filled-join (s h .pre .0 .wide) (Between 0 (m + W h)) (λ b. Dec·and (decLe _ _) (decLt _ _)) (λ b z o. (omega arith, by-cases (decLt b m) (λ y. y) (λ y. absurd (o (omega (arith, y), z .1))))) (λ b z. (omega arith, omega (arith, z))) (λ b z. (omega arith, z .1)) (λ b k z o. refl)
+          (v .3) (d .grid-row .ensures),
     )
 
 returns : tie.Need-returns Inv-loop μ-loop
 unfolding firstGrid
 returns c =
-    let l = c .before .loop in
-    let s = c .before .before .before .before in
-    filled-grid (s .pre .0 .wide) (s .args .size .height .0) _ (λ b h. (omega arith, h)) (s .pre .1 .0) (l .inv .1)
+    let l = c .before in
+    let s = l .before .before .before in
+    let e : l .loop .r ≡ s .args .size .height .0 = omega (arith, c .loop-test, l .loop .inv .0) in
+    filled-grid (s .pre .0 .wide) (s .args .size .height .0) _ (λ b h. (omega arith, omega (arith, h, l .loop .inv .2, ap (λ (r : ℕ). r * s .args .size .width .0) e))) (s .pre .1 .0) (l .loop .inv .3)
 
 pub first-grid-spec : {M : Type 1} → statement M
 first-grid-spec =
     tie.close
-    (tie.spec Inv-loop μ-loop (λ c. omega arith) (λ c. omega arith) (λ c. omega arith) (λ c. omega (arith, few (c .before .before))) (λ c. (omega arith, filled-none _ _ _ _ (λ b h. absurd (omega arith)))) (λ c. omega arith) (λ c. omega (arith, wide (c .before))) (λ c. omega (arith, row (c .before), few (start (c .before)))) (λ c. omega (arith, room (c .before), few (start (c .before)))) (λ c. omega (arith, wide (c .before))) (λ c. omega (arith, column (c .before))) (λ c. omega (arith, room (c .before), column (c .before), few (start (c .before)))) (λ c. omega (arith, few (start (c .before)))) (λ c. omega (arith, start (c .before) .pre .1)) (λ c. omega (arith, few (start (c .before .before)))) (λ c κs. let h = c .before .before in omega (arith, room h, column h, few (start h), h .before .loop .inv .1 .len, start h .pre .1)) (λ c. omega arith) loop-again (λ c. c .before .loop .inv .1 .len) returns)
+    (tie.spec Inv-loop μ-loop (λ c. omega arith) (λ c. omega arith) (λ c. omega arith) (λ c. (omega arith, omega arith, omega arith, filled-none _ _ _ _ (λ b h. absurd (omega (arith, h))))) grid-row-requires (λ c. omega (arith, s (c .before .before .before) .pre .0 .most-wide)) (λ c. let h = c .before .before .before in omega (arith, next h, l h .loop .inv .1)) (λ c. let h = c .before .before .before in omega (arith, next h, l h .loop .inv .2)) (λ c. omega (arith, c .before .before .before .loop-test)) (λ c. omega (arith, c .before .before .before .loop-test)) loop-again (λ c. c .before .loop .inv .3 .len) returns)

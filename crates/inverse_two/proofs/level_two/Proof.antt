@@ -1,4 +1,4 @@
--- The rows of macroblocks from r on are transformed and their windows have run; at the end the topmost row and the edges.
+-- The rows of macroblocks from r on are transformed and their windows have run, and the places are those of row r; at the end the topmost row and the edges.
 use Prim.Native.Nat.{ℕ, _+_, _-_, _*_, _≤_, _<_}
 use mathlib.Core.Path.{_≡_, refl, _∙_}
 use mathlib.Core.Bool.{Bool}
@@ -12,7 +12,7 @@ use Rattle.lifting.specs.Program.{run}
 use Rattle.picture.specs.Planes.{grid}
 use Rattle.picture.specs.Sizes.{macroblocks}
 use Rattle.picture.specs.declared.size.Size.{Size}
-use Rattle.inverse_levels.proofs.Loops.{next-turn}
+use Rattle.grid.proofs.Rows.{row-inside, row-above}
 use Rattle.inverse_two.specs.Blocks.{blockNumbers, cored}
 use Rattle.inverse_two.proofs.Windows.{squaresIf}
 use Rattle.inverse_two.proofs.Reached.{Reached, reached-none, reached-next, reached-all}
@@ -29,11 +29,12 @@ Up filtered size old high y v =
     Reached (4 * size .width .0) (4 * size .height .0) old (blocks size old high) (run (squaresIf filtered (4 * size .width .0) (4 * size .height .0)) (blocks size old high)) y v
 
 abbrev Inv-loop : tie.InvT-loop
-Inv-loop samples₀ filtered size high across down r₀ windows₀ samples r windows =
+Inv-loop samples₀ filtered size high width w across down at₀ b₀ from₀ r₀ windows₀ samples at b from r windows =
     (0 < r) × (r ≤ size .height .0) × (r < size .height .0 → windows ≡ 4) × (r ≡ size .height .0 → windows ≡ 3) × Up filtered size samples₀ high (4 * r) samples
+    × (at ≡ r * (256 * size .width .0)) × (b ≡ r * (16 * size .width .0)) × (from ≡ r * (240 * size .width .0))
 
 abbrev μ-loop : tie.MeasureT-loop
-μ-loop samples₀ filtered size high across down r₀ windows₀ samples r windows = r
+μ-loop samples₀ filtered size high width w across down at₀ b₀ from₀ r₀ windows₀ samples at b from r windows = r
 
 -- the rows of windows that run after the next row of macroblocks
 module _ (l : tie.At-loop Inv-loop μ-loop) where
@@ -52,17 +53,22 @@ module _ (l : tie.At-loop Inv-loop μ-loop) where
   room : 4 * (l .loop .r - 1) + l .loop .windows < 4 * H
   room = by-cases (decLt (4 * l .loop .r) (4 * H)) (λ h. omega (arith, upper h)) (λ o. omega (arith, lowest (omega (arith, o, l .loop .inv .1))))
 
+-- the next row of macroblocks is the one above
+up : (h : tie.In-loop Inv-loop μ-loop) → let l = h .before in let W = start l .args .size .width .0 in l .loop .r * W ≡ (l .loop .r - 1) * W + W
+up h = let l = h .before in row-above (l .loop .r) (start l .args .size .width .0) (omega (arith, h .loop-test))
+
 few : (s : tie.Start Inv-loop μ-loop) → length (s .args .samples .now) ≡ 16 * (4 * s .args .size .width .0 * (4 * s .args .size .height .0))
 few s = omega (arith, s .pre .1 .0)
 
 macroblock-row-requires : tie.Need-macroblock-row-requires Inv-loop μ-loop
 macroblock-row-requires c κs =
-    let l = c .before .before in
+    let h = c .before in
+    let l = h .before in
     let v = l .loop .inv in
     let s = start l in
-    let turn = next-turn (l .loop .r - 1) (H l) (s .args .size .width .0) (omega (arith, v .0, v .1)) in (
+    let turn = row-inside (l .loop .r - 1) (H l) (s .args .size .width .0) (omega (arith, v .0, v .1)) in (
       (s .pre .0 .wide, s .pre .0 .most-wide, omega arith, omega (arith, v .1, s .pre .0 .most-tall)),
-      (omega (arith, turn, v .4 .len, s .pre .1), omega (arith, turn, s .pre .1)),
+      ((omega (arith, v .5, up h), omega (arith, v .6, up h), omega (arith, v .7, up h)), (omega (arith, turn, v .4 .len, s .pre .1), omega (arith, turn, s .pre .1))),
     )
 
 windows-if-requires : tie.Need-windows-if-requires Inv-loop μ-loop
@@ -76,7 +82,8 @@ loop-again : tie.Need-loop-again Inv-loop μ-loop
 loop-again c =
     let f = c .before in
     let m = f .before .before .before in
-    let l = m .before .before .before in
+    let h = m .before .before in
+    let l = h .before in
     let v = l .loop .inv in
     let s = start l in
     let below : 4 * (l .loop .r - 1) + 4 ≡ 4 * l .loop .r = omega (arith, v .0) in (
@@ -86,13 +93,16 @@ loop-again c =
       λ h. absurd (omega (arith, h, v .0, v .1)),
       reached-next (s .pre .0 .wide) (H l) (s .args .samples .now) (s .args .high .now) (s .pre .1 .0) (s .args .filtered) (4 * (l .loop .r - 1)) (l .loop .windows) (4 * l .loop .r)
           (omega (arith, v .0)) (omega (arith, v .1)) (room l) (upper l) (lowest l) (v .4) (rw below at (m .macroblock-row .ensures)) (f .windows-if .ensures),
+      omega (arith, v .5, up h),
+      omega (arith, v .6, up h),
+      omega (arith, v .7, up h),
     )
 
 top-row-requires : tie.Need-top-row-requires Inv-loop μ-loop
 top-row-requires c κs =
     let l = c .before .before in
     let s = start l in
-    let one = next-turn 0 (H l) (s .args .size .width .0) (s .pre .0 .tall) in
+    let one = row-inside 0 (H l) (s .args .size .width .0) (s .pre .0 .tall) in
     ((s .pre .0 .wide, s .pre .0 .most-wide), (omega (arith, one, l .loop .inv .4 .len, s .pre .1), omega (arith, one, s .pre .1)))
 
 windows-if-requires-2 : tie.Need-windows-if-requires-2 Inv-loop μ-loop
@@ -140,7 +150,7 @@ returns c =
 pub level-two-spec : {M : Type 1} → statement M
 level-two-spec =
     tie.close
-    (tie.spec Inv-loop μ-loop (λ c. omega arith) (λ c. omega (arith, c .before .pre .0 .most-wide)) (λ c. omega arith) (λ c. omega (arith, c .before .before .pre .0 .most-tall)) (λ c. omega arith)
-    (λ c. let s = c .before .before .before in (s .pre .0 .tall, omega arith, λ h. absurd (omega (arith, h)), λ h. refl, reached-none _ _ _ _ _))
-    (λ c. omega arith) macroblock-row-requires (λ c. let s = start (c .before .before .before .before .before) in omega (arith, c .before .before .before .before .before .loop .inv .1, s .pre .0 .most-tall)) windows-if-requires (λ c. omega arith) loop-again
+    (tie.spec Inv-loop μ-loop (λ c. omega arith) (λ c. omega (arith, c .before .pre .0 .most-wide)) (λ c. omega (arith, c .before .pre .0 .most-wide)) (λ c. omega arith) (λ c. omega (arith, c .before .before .pre .0 .most-tall)) (λ c. omega arith)
+    (λ c. let s = c .before .before .before in (s .pre .0 .tall, omega arith, λ h. absurd (omega (arith, h)), λ h. refl, reached-none _ _ _ _ _, omega (arith, s .pre .1 .0), omega (arith, s .pre .1 .0), omega (arith, s .pre .1 .1)))
+    (λ c. omega arith) (λ c. omega (arith, start (c .before) .pre .0 .most-wide)) (λ c. omega (arith, c .before .loop .inv .5, up c)) (λ c. omega (arith, start (c .before) .pre .0 .most-wide)) (λ c. omega (arith, c .before .loop .inv .6, up c)) (λ c. omega (arith, start (c .before) .pre .0 .most-wide)) (λ c. omega (arith, c .before .loop .inv .7, up c)) macroblock-row-requires (λ c. let s = start (c .before .before .before .before .before) in omega (arith, c .before .before .before .before .before .loop .inv .1, s .pre .0 .most-tall)) windows-if-requires (λ c. omega arith) loop-again
     top-row-requires windows-if-requires-2 edges-if-requires same-length returns)

@@ -11,9 +11,9 @@ returns c =
     let d2 = d3 .before .before .before .before .before in
     let d1 = d2 .before .before .before .before .before in
     let a = d1 .before .before .before .args in
-    edges-parts (a .size) (a .last) (a .pace) (a .side) (a .step) (a .n) _ (d1 .undo-line .ensures) (d2 .undo-line2 .ensures) (d3 .undo-line3 .ensures) (d4 .undo-line4 .ensures)
+    edges-parts (a .size) (a .far) (a .pace) (a .side) (a .step) (a .n) _ (d1 .undo-line .ensures) (d2 .undo-line2 .ensures) (d3 .undo-line3 .ensures) (d4 .undo-line4 .ensures)
 
 pub undo-edges-spec : {M : Type 1} → statement M
 undo-edges-spec =
     tie.close
-    (tie.spec (λ c. search needs) (λ c κs. search needs) (λ c. search needs) (λ c κs. search needs) (λ c κs. search needs) (λ c κs. search needs) (λ c. search needs) (λ c. search needs) returns)
+    (tie.spec (λ c. search needs) (λ c. search needs) (λ c κs. search needs) (λ c. search needs) (λ c κs. search needs) (λ c κs. search needs) (λ c κs. search needs) (λ c. search needs) (λ c. search needs) returns)

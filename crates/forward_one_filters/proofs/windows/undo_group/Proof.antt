@@ -10,7 +10,7 @@ asked c κs =
     let u = c .before .before .before .before in
     let g = u .before .before .before .before in
     let s = g .before .before .before .before in
-    (s .pre .0, ((s .pre .1 .0, s .pre .1 .1, s .pre .1 .2, u .undo-four-windows .ensures .len), λ l h. undone-of _ _ _ _ l (omega (arith, h, s .pre .1)) (u .undo-four-windows .ensures) (g .get-windows .ensures l h)))
+    (s .pre .0, (s .pre .1 .0, ((s .pre .1 .1 .0, s .pre .1 .1 .1, s .pre .1 .1 .2, u .undo-four-windows .ensures .len), λ l h. undone-of _ _ _ _ l (omega (arith, h, s .pre .1 .1)) (u .undo-four-windows .ensures) (g .get-windows .ensures l h))))
 
 pub undo-group-spec : {M : Type 1} → statement M
 undo-group-spec =

@@ -1,5 +1,5 @@
 -- Two lines across the edge between the upper squares, and two between the lower.
-use Prim.Native.Nat.{_+_, _*_}
+use Prim.Native.Nat.{_+_}
 use mathlib.Core.Path.{refl}
 use native.Mathlib.Omega.{arith}
 use borrow.Author.Needs.{needs}
@@ -7,8 +7,8 @@ use Rattle.forward_one_grid.proofs.Lines.{Corner, corner, window-read}
 use Rattle.forward_one_grid.proofs.window.get_window.Statement.{statement}
 use Rattle.forward_one_grid.proofs.window.get_window.Tie as tie
 
-at : (s : tie.Start) → let a = s .args in let t = a .j * a .size .width .0 + a .i in Corner (a .size) (a .j) (a .i) t (t + a .size .width .0)
-at s = corner (s .args .size) (s .args .j) (s .args .i) (s .pre .0 .sized) (s .pre .1 .0) (s .pre .1 .1) refl refl
+at : (s : tie.Start) → let a = s .args in Corner (a .size) (a .j) (a .i) (a .t) (a .t + a .size .width .0)
+at s = corner (s .args .size) (s .args .j) (s .args .i) (s .pre .0 .sized) (s .pre .1 .0) (s .pre .1 .1) (s .pre .1 .2) refl
 
 returns : tie.Need-returns
 returns c =
@@ -20,7 +20,7 @@ returns c =
 pub get-window-spec : {M : Type 1} → statement M
 get-window-spec =
     tie.close
-    (tie.spec (λ c. search needs) (λ c. omega (arith, at (c .before))) (λ c. omega (arith, at (c .before))) (λ c. omega (arith, at (c .before))) (λ c. omega (arith, at (c .before)))
+    (tie.spec (λ c. search needs) (λ c. omega (arith, at (c .before))) (λ c. omega (arith, at (c .before)))
     (λ c κs. let s = c .before in let h = at s in (s .pre .0, (omega arith, omega arith, omega arith)))
     (λ c. omega (arith, at (c .before .before)))
     (λ c κs. let s = c .before .before in let h = at s in (s .pre .0, (omega arith, omega arith, omega arith)))

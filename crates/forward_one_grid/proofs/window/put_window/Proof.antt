@@ -1,5 +1,5 @@
 -- Two lines across the edge between the upper squares, and two between the lower.
-use Prim.Native.Nat.{_+_, _*_}
+use Prim.Native.Nat.{_+_}
 use mathlib.Core.Path.{refl}
 use native.Mathlib.Omega.{arith}
 use borrow.Author.Needs.{needs}
@@ -7,8 +7,8 @@ use Rattle.forward_one_grid.proofs.Lines.{Corner, corner, window-stored
 use Rattle.forward_one_grid.proofs.window.put_window.Statement.{statement}
 use Rattle.forward_one_grid.proofs.window.put_window.Tie as tie
 
-at : (s : tie.Start) → let a = s .args in let t = a .j * a .size .width .0 + a .i in Corner (a .size) (a .j) (a .i) t (t + a .size .width .0)
-at s = corner (s .args .size) (s .args .j) (s .args .i) (s .pre .0 .sized) (s .pre .1 .0) (s .pre .1 .1) refl refl
+at : (s : tie.Start) → let a = s .args in Corner (a .size) (a .j) (a .i) (a .t) (a .t + a .size .width .0)
+at s = corner (s .args .size) (s .args .j) (s .args .i) (s .pre .0 .sized) (s .pre .1 .0) (s .pre .1 .1) (s .pre .1 .2) refl
 
 -- the function's entry, from each store
 module _ where
@@ -31,12 +31,12 @@ returns c =
     let d2 = d3 .before .before .before .before .before .before in
     let d1 = d2 .before .before .before .before .before .before in
     let s = s1 (d1 .before .before .before) in
-    window-stored (at s) (s .args .t6) _ (d1 .put-across .ensures) (d2 .put-across2 .ensures) (d3 .put-across3 .ensures) (d4 .put-across4 .ensures)
+    window-stored (at s) (s .args .t7) _ (d1 .put-across .ensures) (d2 .put-across2 .ensures) (d3 .put-across3 .ensures) (d4 .put-across4 .ensures)
 
 pub put-window-spec : {M : Type 1} → statement M
 put-window-spec =
     tie.close
-    (tie.spec (λ c. search needs) (λ c. omega (arith, at (c .before))) (λ c. omega (arith, at (c .before))) (λ c. omega (arith, at (c .before)))
+    (tie.spec (λ c. search needs) (λ c. omega (arith, at (c .before)))
     (λ c. omega (arith, at (s1 (c .before)))) (λ c. search needs)
     (λ c κs. let h = at (s1 (c .before .before)) in (search needs, (omega arith, omega arith, omega arith)))
     (λ c. omega (arith, at (s2 (c .before)))) (λ c. search needs)

@@ -5,7 +5,8 @@ use native.Mathlib.Omega.{arith}
 use lib.ListN.{length}
 use Rattle.lifting.specs.Program.{run, each}
 use Rattle.picture.specs.Level.{cell, coreAt, cores}
-use Rattle.inverse_levels.proofs.Loops.{each-none, each-more, next-turn}
+use Rattle.inverse_levels.proofs.Loops.{each-none, each-more}
+use Rattle.grid.proofs.Rows.{row-inside}
 use Rattle.inverse_one.proofs.cores.cores.Statement.{statement}
 use Rattle.inverse_one.proofs.cores.cores.Tie as tie
 
@@ -29,5 +30,5 @@ pub cores-spec : {M : Type 1} → statement M
 cores-spec =
     tie.close
     (tie.spec Inv-loop μ-loop (λ c. (omega arith, refl, each-none _ _))
-    (λ c κs. let l = c .before .before in let a = l .before .args in (omega (arith, next-turn (l .loop .j) (a .q) (a .p) (omega arith), l .loop .inv .1), (omega arith, omega arith)))
+    (λ c κs. let l = c .before .before in let a = l .before .args in (omega (arith, row-inside (l .loop .j) (a .q) (a .p) (omega arith), l .loop .inv .1), (omega arith, omega arith)))
     (λ c. omega arith) (λ c. omega arith) loop-again (λ c. c .before .loop .inv .1) returns)

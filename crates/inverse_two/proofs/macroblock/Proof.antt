@@ -1,0 +1,108 @@
+-- The rows of blocks from k on are filled; the three places go up by a row of blocks at each turn, and are at every turn those that are multiplied out.
+use Prim.Native.Nat.{ℕ, _+_, _-_, _*_, _/_, _%_, _≤_, _<_}
+use mathlib.Core.Path.{_≡_}
+use native.Mathlib.Omega.{arith}
+use native.Mathlib.Nat.{mul-le-mul-right}
+use lib.ListN.{length}
+use Rattle.picture.proofs.CheckLaws.{few}
+use Rattle.grid.proofs.Rows.{row-above}
+use Rattle.inverse_two.specs.Blocks.{BlocksCored}
+use Rattle.inverse_two.proofs.Places.{four-filled, blocks-no-rows, above}
+use Rattle.inverse_two.proofs.macroblock.Statement.{statement}
+use Rattle.inverse_two.proofs.macroblock.Tie as tie
+
+abbrev Inv-loop : tie.InvT-loop
+Inv-loop samples₀ r c at b high from p w to₀ number₀ next₀ k₀ samples to number next k =
+    (k ≤ 4) × (to ≡ at + k * (64 * p)) × (number ≡ b + k * (4 * p)) × (next ≡ from + 60 * k) × BlocksCored p high samples₀ (4 * r + k) (4 * r + 4) c (c + 1) samples
+
+abbrev μ-loop : tie.MeasureT-loop
+μ-loop samples₀ r c at b high from p w to₀ number₀ next₀ k₀ samples to number next k = k
+
+at-most : (s : tie.Start Inv-loop μ-loop) → s .args .width .0 * s .args .r ≤ 216825
+at-most s = few (s .args .width .0) (s .args .r) (s .pre .0 .1) (omega (arith, s .pre .0 .2))
+
+-- the place of the group's first high-pass number
+order : (r j c W : ℕ) → j < 4 → 240 * (r * W) + 240 * c + 60 * j ≡ 240 * ((4 * r + j) / 4 * W + c) + 60 * ((4 * r + j) % 4)
+order r j c W h = let e : (4 * r + j) / 4 ≡ r = omega arith in rw e (omega arith)
+
+-- row j of the macroblock's blocks lies in the picture, and so do its numbers
+module _ (W r c j n : ℕ) (beside : c < W) (few-rows : j < 4) (long : 256 * (r * W + W) ≤ n) where
+  no-further : j * W ≤ 3 * W
+  no-further = mul-le-mul-right W (omega arith)
+
+  samples-inside : (i : ℕ) → i ≡ r * (256 * W) + 16 * c + j * (64 * W) → i + 4 * (4 * W) + 4 * (4 * W) + 4 * (4 * W) + 15 < n
+  samples-inside i e = omega (arith, no-further)
+
+  numbers-inside : (i : ℕ) → i ≡ r * (16 * W) + 4 * c + j * (4 * W) → i + 3 < n
+  numbers-inside i e = omega (arith, no-further)
+
+-- the places of the row of blocks that is filled next
+module _ (h : tie.In-loop Inv-loop μ-loop) where
+  abbrev l : tie.At-loop Inv-loop μ-loop
+  l = h .before
+
+  abbrev s : tie.Start Inv-loop μ-loop
+  s = l .before .before
+
+  abbrev W : ℕ
+  W = s .args .width .0
+
+  abbrev j : ℕ
+  j = l .loop .k - 1
+
+  up : l .loop .k * W ≡ j * W + W
+  up = row-above (l .loop .k) W (omega (arith, h .loop-test))
+
+  low : j < 4
+  low = omega (arith, l .loop .inv .0, h .loop-test)
+
+  samples-at : l .loop .to - 4 * (4 * (4 * W)) ≡ s .args .r * (256 * W) + 16 * s .args .c + j * (64 * W)
+  samples-at = omega (arith, up, l .loop .inv .1, s .pre .1 .0 .0)
+
+  numbers-at : l .loop .number - 4 * W ≡ s .args .r * (16 * W) + 4 * s .args .c + j * (4 * W)
+  numbers-at = omega (arith, up, l .loop .inv .2, s .pre .1 .0 .1)
+
+  high-at : l .loop .next - 60 ≡ s .args .r * (240 * W) + 240 * s .args .c + 60 * j
+  high-at = omega (arith, l .loop .inv .3, h .loop-test, s .pre .1 .0 .2)
+
+loop-holds : tie.Need-loop-holds Inv-loop μ-loop
+loop-holds c = let a = c .before .args in (omega arith, omega arith, omega arith, omega arith, blocks-no-rows (omega (arith, c .before .pre .0)) (a .high .now) (4 * a .r + 4) (a .c) (a .c + 1) (a .samples .now))
+
+four-blocks-requires : tie.Need-four-blocks-requires Inv-loop μ-loop
+four-blocks-requires c κs =
+    let h = c .before in
+    let a = s h .args in
+    let p = s h .pre in
+    let long : 256 * (a .r * W h + W h) ≤ length (l h .loop .samples) = omega (arith, l h .loop .inv .4 .len, p .1 .1 .0) in (
+      (omega (arith, p .0 .0), samples-inside (W h) (a .r) (a .c) (j h) _ (p .0 .0) (low h) long _ (samples-at h), numbers-inside (W h) (a .r) (a .c) (j h) _ (p .0 .0) (low h) long _ (numbers-at h)),
+      omega (arith, high-at h, low h, p .0 .0, p .1 .1 .1),
+    )
+
+loop-again : tie.Need-loop-again Inv-loop μ-loop
+loop-again c =
+    let d = c .before in
+    let h = d .before .before in
+    let v = l h .loop .inv in
+    let a = s h .args in
+    let y = 4 * a .r + j h in
+    let wide : 0 < W h = omega (arith, s h .pre .0 .0) in (
+      omega (arith, v .0),
+      omega (arith, v .1, up h),
+      omega (arith, v .2, up h),
+      omega (arith, v .3, h .loop-test),
+      above wide (a .high .now) y (y + 1) (4 * a .r + l h .loop .k) (4 * a .r + 4) (a .c) (a .c + 1) (omega arith) (omega (arith, low h)) (omega (arith, h .loop-test)) (v .4)
+          (four-filled wide y (a .c) _ _ _ (s h .pre .0 .0) (omega (arith, samples-at h)) (omega (arith, numbers-at h)) (omega (arith, high-at h, order (a .r) (j h) (a .c) (W h) (low h))) (d .four-blocks .ensures)),
+    )
+
+returns : tie.Need-returns Inv-loop μ-loop
+returns c =
+    let l = c .before .loop in
+    let s = c .before .before .before in
+    let e : 4 * s .args .r + l .k ≡ 4 * s .args .r = omega (arith, c .loop-test) in
+    rw e at (l .inv .4)
+
+pub macroblock-spec : {M : Type 1} → statement M
+macroblock-spec =
+    tie.close
+    (tie.spec Inv-loop μ-loop (λ c. omega arith) (λ c. omega arith) (λ c. omega arith) (λ c. omega arith) (λ c. omega (arith, at-most (c .before), c .before .pre)) (λ c. omega arith) (λ c. omega (arith, at-most (c .before), c .before .pre)) (λ c. omega (arith, at-most (c .before), c .before .pre)) loop-holds (λ c. omega arith) (λ c. omega arith)
+    (λ c. omega (arith, up c, c .before .loop .inv)) (λ c. omega arith) (λ c. omega (arith, up c, c .before .loop .inv)) (λ c. omega (arith, c .before .loop .inv, c .loop-test)) four-blocks-requires (λ c. omega (arith, c .before .before .before .loop-test)) loop-again (λ c. c .before .loop .inv .4 .len) returns)
