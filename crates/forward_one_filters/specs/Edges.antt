@@ -14,8 +14,8 @@ filterAcross size t u l step = apply FourFilter fourFilter (across size t u l st
 unfoldable pub line : Size → ℕ → ℕ → ℕ → ℕ → ℕ → Program
 line size from pace l step n = each n (λ i. filterAcross size (from + pace * i) (from + pace * i + pace) l step)
 
--- two lines at each of two edges: the first two of the squares from 0 on, and the last two of the squares from `last` on.
+-- two lines at each of two edges: the first two of the squares from 0 on, and the last two of the squares from `far` on.
 -- Lines stand `side` apart; along rows that is 4 and the step 1, down columns it is 1 and the step 4.
 unfoldable pub edges : Size → ℕ → ℕ → ℕ → ℕ → ℕ → Program
-edges size last pace side step n =
-    line size 0 pace 0 step n then line size 0 pace side step n then line size last pace (2 * side) step n then line size last pace (3 * side) step n
+edges size far pace side step n =
+    line size 0 pace 0 step n then line size 0 pace side step n then line size far pace (2 * side) step n then line size far pace (3 * side) step n
