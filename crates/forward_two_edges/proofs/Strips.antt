@@ -5,7 +5,7 @@ use mathlib.Core.Logic.{_⊎_, inl, inr, by-cases}
 use mathlib.Core.List.{List}
 use native.Mathlib.Omega.{arith}
 use native.Mathlib.Decide.{ℕ-discrete, decLt}
-use native.Mathlib.Nat.{add-mul, mul-le-mul-right}
+use native.Mathlib.Nat.{add-mul}
 use lib.ListN.{length, set, length-set}
 use lib.Seq.{getD-set-same, getD-set-other}
 use lib.IntN.{ℤ, pos}
@@ -19,7 +19,7 @@ use Rattle.picture.proofs.CheckLaws.{few}
 use Rattle.grid.proofs.Rows.{row-inside}
 use Rattle.forward_kernel.proofs.Stores.{below-four}
 use Rattle.forward_two_edges.specs.Unfiltered.{unfiltered, Edge}
-use Rattle.forward_two_edges.specs.Strip.{Holds, Kept, Rows, Spread, unfilteredAt}
+use Rattle.forward_two_edges.specs.Strip.{Holds, Kept, Given, Rows, Spread, unfilteredAt}
 use Rattle.forward_two_edges.proofs.Numbers.{cell-low, row-at, column-at, corner-at}
 
 -- ---- numbers along a line
@@ -100,6 +100,32 @@ kept-as t' b' l' k' e f g h d = record { len = d .len; same = λ y x m n. d .sam
 pub kept-then : {t b l k : ℕ} {old mid new : List ℤ} → Kept t b l k old mid → Kept t b l k mid new → Kept t b l k old new
 kept-then d e = record { len = e .len ∙ d .len; same = λ y x m n. e .same y x m n ∙ d .same y x m n }
 
+-- ---- row after row
+
+-- the same picture with another strip
+pub given-of : {size : Size} {r c : ℕ} {samples old new : List ℤ} → Given size r c samples old → length new ≡ 1296 → Given size r c samples new
+given-of g e = record { sized = g .sized; below = g .below; beside = g .beside; of-samples = g .of-samples; of-strip = e }
+
+-- of rows top to bottom, those before row y are there, and nothing outside them has changed
+pub record Made (size : Size) (samples : List ℤ) (r c top bottom left right y : ℕ) (old new : List ℤ) : Type 0 where
+  pub from : top ≤ y
+  pub holds : Holds size samples r c top y left right new
+  pub kept : Kept top bottom left right old new
+
+pub made-none : (size : Size) (samples : List ℤ) (r c t b l k : ℕ) (v : List ℤ) → Made size samples r c t b l k t v v
+made-none size samples r c t b l k v = record { from = omega arith; holds = record { there = λ y x f g h i u v. absurd (omega arith) }; kept = kept-none t b l k v }
+
+module _ {size : Size} {samples : List ℤ} (r c t b l k y : ℕ) {old mid : List ℤ} (m : Made size samples r c t b l k y old mid) where
+  pub made-next : {new : List ℤ} → k ≤ 72 → y < b → Holds size samples r c y (y + 1) l k new × Kept y (y + 1) l k mid new → Made size samples r c t b l k (y + 1) old new
+  made-next few below e = record {
+    from = omega (arith, m .from);
+    holds = holds-next r c t y l k few (m .holds) (e .0) (e .1);
+    kept = kept-then (m .kept) (kept-as t b l k (m .from) (omega arith) (omega arith) (omega arith) (e .1));
+  }
+
+  pub made-all : b ≤ y → Holds size samples r c t b l k mid × Kept t b l k old mid
+  made-all h = (holds-as r c t b l k (omega arith) h (omega arith) (omega arith) (m .holds), m .kept)
+
 -- ---- places of the samples
 
 pub place-low : (size : Size) → Sized size → (y x : ℕ) {a : ℕ} → a ≡ cell (4 * size .width .0) y x → y < 16 * size .height .0 → x < 16 * size .width .0
@@ -108,6 +134,11 @@ place-low size z y x e h k =
     let W = size .width .0 in
     let H = size .height .0 in
     (omega (arith, e, cell-low (4 * W) (4 * H) y x (omega arith) (omega arith)), omega (arith, few W H (z .most-wide) (z .most-tall)))
+
+-- the place of a later row is small too
+pub next-row : {size : Size} {r c : ℕ} {samples strip : List ℤ} → Given size r c samples strip → (y x a : ℕ) → a ≡ cell (4 * size .width .0) (16 * r + y) (16 * c + x) → 16 * r + y < 16 * size .height .0
+    → 16 * c + x < 16 * size .width .0 → a + 64 * size .width .0 ≤ 55540800
+next-row {size} {r} {c} g y x a e h k = omega (arith, place-low size (g .sized) (16 * r + y) (16 * c + x) e h k, g .sized .most-wide)
 
 -- ---- what a line settles
 

@@ -1,5 +1,5 @@
 -- Where blocks lie, and which of them cover numbers that are yet to be read: a block by its row and column of blocks, a sample by its row and column.
-use Prim.Native.Nat.{ℕ, _+_, _-_, _*_, _/_, _%_, _≤_, _<_}
+use Prim.Native.Nat.{ℕ, _+_, _*_, _/_, _%_, _≤_, _<_}
 use mathlib.Core.Path.{_≡_, sym, _∙_, ap, ap₂}
 use mathlib.Core.Logic.{by-cases, Dec·and}
 use mathlib.Core.List.{List}

@@ -3,6 +3,7 @@ use Prim.Native.Nat.{_+_}
 use mathlib.Core.Path.{_≡_, _∙_}
 use mathlib.Core.Logic.{inr}
 use native.Mathlib.Omega.{arith}
+use Rattle.forward_two_edges.proofs.Strips.{given-of}
 use Rattle.forward_two.proofs.Joined.{inner-columns, last-columns}
 use borrow.Author.Needs.{needs}
 use Rattle.forward_two.proofs.fill.Statement.{statement}
@@ -15,7 +16,7 @@ middle-requires c κs =
     let s = l .before .before in
     let g = s .pre .0 in
     let h = s .pre .1 .1 .1 .1 in
-    (record { sized = g .sized; below = g .below; beside = g .beside; of-samples = g .of-samples; of-strip = l .left .ensures .1 }, (s .pre .1 .0, (s .pre .1 .1 .0, (omega (arith, h), omega (arith, h)))))
+    (given-of g (l .left .ensures .1), (s .pre .1 .0, (s .pre .1 .1 .0, (omega (arith, h), omega (arith, h)))))
 
 edge-columns-requires : tie.Need-edge-columns-requires
 edge-columns-requires c κs =
@@ -26,7 +27,7 @@ edge-columns-requires c κs =
     let g = s .pre .0 in
     let h = s .pre .1 .1 .1 .1 in
     let end : s .args .c + s .args .n ≡ s .args .size .width .0 = omega (arith, t .if1) in
-    (record { sized = g .sized; below = g .below; beside = g .beside; of-samples = g .of-samples; of-strip = m .middle .ensures .1 .len ∙ l .left .ensures .1 }, (s .pre .1 .0, (s .pre .1 .1 .0, ((omega (arith, h), omega (arith, h, end)), (inr (omega (arith, h, end)), inr (omega (arith, h, end)))))))
+    (given-of g (m .middle .ensures .1 .len ∙ l .left .ensures .1), (s .pre .1 .0, (s .pre .1 .1 .0, ((omega (arith, h), omega (arith, h, end)), (inr (omega (arith, h, end)), inr (omega (arith, h, end)))))))
 
 returns : tie.Need-returns
 returns c =
@@ -47,7 +48,7 @@ middle-requires-2 c κs =
     let s = l .before .before in
     let g = s .pre .0 in
     let h = s .pre .1 .1 .1 .1 in
-    (record { sized = g .sized; below = g .below; beside = g .beside; of-samples = g .of-samples; of-strip = l .left .ensures .1 }, (s .pre .1 .0, (s .pre .1 .1 .0, (omega (arith, h), omega (arith, h, t .if1)))))
+    (given-of g (l .left .ensures .1), (s .pre .1 .0, (s .pre .1 .1 .0, (omega (arith, h), omega (arith, h, t .if1)))))
 
 returns-2 : tie.Need-returns-2
 returns-2 c =

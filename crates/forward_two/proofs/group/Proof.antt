@@ -2,6 +2,7 @@
 use mathlib.Core.Path.{_∙_}
 use native.Mathlib.Omega.{arith}
 use Rattle.forward_two_cores.specs.Blocks.{blockOf}
+use Rattle.forward_two_edges.proofs.Strips.{given-of}
 use Rattle.forward_two.proofs.Joined.{group-inside, columns-carried, group-through}
 use borrow.Author.Needs.{needs}
 use Rattle.forward_two.proofs.group.Statement.{statement}
@@ -16,7 +17,7 @@ upper-requires c κs =
     let s = f .before .before in
     let g = s .pre .0 in
     let h = s .pre .1 .1 in
-    (record { sized = g .sized; below = g .below; beside = g .beside; of-samples = g .of-samples; of-strip = f .fill .ensures .1 }, (h .0, (h .1 .1 .0, (h .1 .0 .top, (s .pre .1 .0 .1, (f .fill .ensures .0, h .1 .1 .1 .1))))))
+    (given-of g (f .fill .ensures .1), (h .0, (h .1 .1 .0, (h .1 .0 .top, (s .pre .1 .0 .1, (f .fill .ensures .0, h .1 .1 .1 .1))))))
 
 cores-requires : tie.Need-cores-requires
 cores-requires c κs =

@@ -3,7 +3,7 @@ use Prim.Native.Nat.{_+_, _*_, _<_, _≤_}
 use mathlib.Core.Path.{_∙_}
 use native.Mathlib.Omega.{arith}
 use Rattle.picture.specs.Sizes.{macroblocks}
-use Rattle.forward_two_edges.proofs.Strips.{place-low, holds-kept, kept-as, kept-then, first-place, rows-first, rows-down, rows-above, rows-below, three-rows}
+use Rattle.forward_two_edges.proofs.Strips.{given-of, place-low, holds-kept, kept-as, kept-then, first-place, rows-first, rows-down, rows-above, rows-below, three-rows}
 use borrow.Author.Needs.{needs}
 use Rattle.forward_two.proofs.middle.Statement.{statement}
 use Rattle.forward_two.proofs.middle.Tie as tie
@@ -34,7 +34,7 @@ windows-requires c κs =
     let s = d .before .before .before in
     let g = s .pre .0 in
     let h = s .pre .1 .1 in
-    (record { sized = g .sized; below = g .below; beside = g .beside; of-samples = g .of-samples; of-strip = d .edge-rows .ensures .1 .len ∙ g .of-strip }, (omega (arith, s .pre .1 .0), ((ends s .1, h .1 .0), (ends s .2, h .1 .1))))
+    (given-of g (d .edge-rows .ensures .1 .len ∙ g .of-strip), (omega (arith, s .pre .1 .0), ((ends s .1, h .1 .0), (ends s .2, h .1 .1))))
 
 mul-edge-rows : tie.Need-mul-edge-rows
 mul-edge-rows c = omega (arith, ends (c .before .before .before .before .before .before .before))
@@ -49,7 +49,7 @@ edge-rows-requires-2 c κs =
     let s = d .before .before .before in
     let g = s .pre .0 in
     let h = s .pre .1 .1 in
-    (record { sized = g .sized; below = g .below; beside = g .beside; of-samples = g .of-samples; of-strip = e .windows .ensures .1 .0 .len ∙ d .edge-rows .ensures .1 .len ∙ g .of-strip }, (λ k. e .windows .ensures .1 .1, ((omega arith, h .1 .0, h .1 .1), rows-below (g .below) (h .0))))
+    (given-of g (e .windows .ensures .1 .0 .len ∙ d .edge-rows .ensures .1 .len ∙ g .of-strip), (λ k. e .windows .ensures .1 .1, ((omega arith, h .1 .0, h .1 .1), rows-below (g .below) (h .0))))
 
 returns : tie.Need-returns
 returns c =

@@ -3,7 +3,7 @@ use Prim.Native.Nat.{_+_, _*_, _<_, _≤_}
 use mathlib.Core.Path.{_∙_}
 use native.Mathlib.Omega.{arith}
 use Rattle.picture.specs.Sizes.{macroblocks}
-use Rattle.forward_two_edges.proofs.Strips.{place-low, column-filled, first-place, rows-down, rows-above, rows-below, columns-joined}
+use Rattle.forward_two_edges.proofs.Strips.{given-of, place-low, column-filled, first-place, rows-down, rows-above, rows-below, columns-joined}
 use borrow.Author.Needs.{needs}
 use Rattle.forward_two_edges.proofs.edge_columns.Statement.{statement}
 use Rattle.forward_two_edges.proofs.edge_columns.Tie as tie
@@ -65,7 +65,7 @@ corners-requires-2 c κs =
     let s = d .before .before .before in
     let g = s .pre .0 in
     let h = s .pre .1 .1 in (
-      record { sized = g .sized; below = g .below; beside = g .beside; of-samples = g .of-samples; of-strip = f .column-fours2 .ensures .0 .len ∙ e .column-fours .ensures .0 .len ∙ d .corners .ensures .1 .len ∙ g .of-strip },
+      given-of g (f .column-fours2 .ensures .0 .len ∙ e .column-fours .ensures .0 .len ∙ d .corners .ensures .1 .len ∙ g .of-strip),
       (λ k. omega (arith, s .pre .1 .0, e .column-fours .ensures .1), ((omega arith, h .1 .0 .0, h .1 .0 .1), (h .1 .1, rows-below (g .below) (h .0)))),
     )
 

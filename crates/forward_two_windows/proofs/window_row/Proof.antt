@@ -3,7 +3,7 @@ use Prim.Native.Nat.{ℕ, _+_, _-_, _*_, _≤_}
 use mathlib.Core.Path.{_≡_, _∙_}
 use native.Mathlib.Omega.{arith}
 use Rattle.forward_two_edges.specs.Strip.{Holds, Kept}
-use Rattle.forward_two_edges.proofs.Strips.{holds-kept, holds-beside, holds-as, kept-none, kept-as, kept-then}
+use Rattle.forward_two_edges.proofs.Strips.{given-of, holds-kept, holds-beside, holds-as, kept-none, kept-as, kept-then}
 use Rattle.forward_two_windows.proofs.window_row.Statement.{statement}
 use Rattle.forward_two_windows.proofs.window_row.Tie as tie
 
@@ -23,7 +23,7 @@ windows-at-requires c κs =
     let s = l .before in
     let g = s .pre .0 in
     let h = s .pre .1 .1 in
-    (record { sized = g .sized; below = g .below; beside = g .beside; of-samples = g .of-samples; of-strip = l .loop .inv .2 .len ∙ g .of-strip }, (s .pre .1 .0, ((h .0 .0, omega (arith, h)), (h .1 .0, omega (arith, h)))))
+    (given-of g (l .loop .inv .2 .len ∙ g .of-strip), (s .pre .1 .0, ((h .0 .0, omega (arith, h)), (h .1 .0, omega (arith, h)))))
 
 loop-again : tie.Need-loop-again Inv-loop μ-loop
 loop-again c =

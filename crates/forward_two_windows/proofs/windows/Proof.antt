@@ -5,7 +5,7 @@ use native.Mathlib.Omega.{arith}
 use borrow.Author.Needs.{needs}
 use Rattle.picture.specs.Level.{cell}
 use Rattle.forward_two_edges.specs.Strip.{Holds, Kept}
-use Rattle.forward_two_edges.proofs.Strips.{place-low, holds-kept, holds-under, holds-as, kept-none, kept-as, kept-then}
+use Rattle.forward_two_edges.proofs.Strips.{given-of, next-row, holds-kept, holds-under, holds-as, kept-none, kept-as, kept-then}
 use Rattle.forward_two_windows.proofs.windows.Statement.{statement}
 use Rattle.forward_two_windows.proofs.windows.Tie as tie
 
@@ -25,15 +25,13 @@ window-row-requires c κs =
     let s = l .before .before in
     let g = s .pre .0 in
     let h = s .pre .1 .1 in
-    (record { sized = g .sized; below = g .below; beside = g .beside; of-samples = g .of-samples; of-strip = l .loop .inv .2 .len ∙ g .of-strip }, (l .loop .inv .3, ((omega (arith, h), h .0 .1), (omega (arith, h), h .1 .1))))
+    (given-of g (l .loop .inv .2 .len ∙ g .of-strip), (l .loop .inv .3, ((omega (arith, h), h .0 .1), (omega (arith, h), h .1 .1))))
 
 add-row : tie.Need-add-row Inv-loop μ-loop
 add-row c =
     let l = c .before .before .before .before in
     let s = l .before .before in
-    let a = s .args in
-    let z = s .pre .0 .sized in
-    omega (arith, z .most-wide, place-low (a .size) z (16 * a .r + 4 * l .loop .v + 2) (16 * a .c) (l .loop .inv .3) (omega (arith, s .pre .1 .1 .1)) (omega (arith, s .pre .0 .beside)))
+    omega (arith, next-row (s .pre .0) (4 * l .loop .v + 2) 0 (l .loop .row) (omega (arith, l .loop .inv .3)) (omega (arith, s .pre .1 .1 .1)) (omega (arith, s .pre .0 .beside)))
 
 loop-again : tie.Need-loop-again Inv-loop μ-loop
 loop-again c =

@@ -3,7 +3,6 @@ use Prim.Native.Nat.{ℕ, _+_, _-_, _*_, _/_, _%_, _≤_, _<_}
 use mathlib.Core.Path.{_≡_}
 use native.Mathlib.Omega.{arith}
 use native.Mathlib.Nat.{mul-le-mul-right}
-use lib.ListN.{length}
 use Rattle.inverse_two.specs.Blocks.{BlocksCored}
 use Rattle.inverse_two.proofs.Places.{four-filled, blocks-none, left-of, free-row}
 use Rattle.inverse_two.proofs.block_row.Statement.{statement}

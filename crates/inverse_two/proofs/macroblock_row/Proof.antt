@@ -1,5 +1,5 @@
 -- The macroblocks from c on are filled, from the last to the first; the row's numbers of level one lie above it.
-use Prim.Native.Nat.{_+_, _-_, _*_, _≤_, _<_}
+use Prim.Native.Nat.{_+_, _-_, _*_, _≤_}
 use mathlib.Core.Path.{_≡_}
 use native.Mathlib.Omega.{arith}
 use Rattle.picture.proofs.CheckLaws.{few}

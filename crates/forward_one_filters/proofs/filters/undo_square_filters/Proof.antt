@@ -28,7 +28,7 @@ loop-again c =
     let d = c .before .before in
     let k = d .undo-squares-across .kept in
     let l = d .before .before .before in
-    (undoing-step (l .before .loop .inv .0) (omega arith) (k .1 .0) (k .1 .1 .0) (d .undo-squares-across .ensures), above l .1)
+    (undoing-step (l .before .loop .inv .0) (omega arith) (k .1 .0) (k .1 .1 .0) (d .undo-squares-across .ensures), omega (arith, above l))
 
 returns : tie.Need-returns Inv-loop μ-loop
 unfolding squareFilters
