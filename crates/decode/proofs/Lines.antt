@@ -5,7 +5,7 @@ use mathlib.Core.Logic.{⊎-elim}
 use mathlib.Core.List.{List, [], _∷_, _++_, append-nil, append-assoc}
 use native.Mathlib.Omega.{arith}
 use native.Mathlib.Numerals.{add-one}
-use native.Mathlib.Nat.{zero-add, add-comm, zero-mul, suc-mul, add-sub-cancel-left, mul-le-mul-right}
+use native.Mathlib.Nat.{zero-add, add-comm, zero-mul, suc-mul, add-sub-cancel-left}
 use lib.IntN.{ℤ, pos}
 use lib.ListN.{length, getD, take, drop, length-take, length-drop, length-append, drop-of-length-le, List·getD-eq-default}
 use lib.Seq.{getD-take, getD-drop, drop-drop, take-all, length-take-le}
@@ -77,9 +77,6 @@ module _ (xs : List ℤ) (b o : List ℕ) (w y : ℕ) {at from : ℕ} (place : f
   pub next-laid : {p : List ℕ} → o ≡ over b 0 (rows y w xs) → p ≡ over o at (row (take w (drop from xs))) → p ≡ over b 0 (rows (y + 1) w xs)
   next-laid laid e =
       rw (rows-more y w xs, ← place) (then-text b o 0 (rows y w xs) (row (take w (drop from xs))) (omega arith) laid (omega (arith, size)) e)
-
-pub row-below : (y w h : ℕ) → y < h → y * w + w ≤ h * w
-row-below y w h l = rw (← suc-mul y w) (mul-le-mul-right w l)
 
 -- all rows
 pub last-row : (xs : List ℤ) (b : List ℕ) (w : ℕ) {y h at : ℕ} {o : List ℕ} → y ≤ h → h ≤ y → at ≡ length (rows y w xs) → at ≤ 12 * (y * w) → o ≡ over b 0 (rows y w xs)

@@ -18,6 +18,7 @@ use Rattle.picture.specs.Sizes.{macroblocks}
 use Rattle.picture.specs.declared.size.Size.{Size}
 use Rattle.picture.proofs.Table.{same-lists}
 use Rattle.lanes.proofs.Rows.{square-at}
+use Rattle.grid.proofs.Rows.{row-inside}
 use Rattle.forward_kernel.specs.Placed.{undoneAt}
 use Rattle.forward_two_cores.specs.Blocks.{squareIn, undoneIn, Among, Replaced}
 use Rattle.forward_two_edges.specs.Unfiltered.{unfiltered}
@@ -96,7 +97,7 @@ module _ (size : Size) (samples : List ℤ) (wide : 0 < size .width .0) (r c n :
       row = omega (arith, mul-le-mul-right W lower)
 
       inside : (b : ℕ) → b < n → r * W + c + b < W * H
-      inside b h = let e : (r + 1) * W ≤ H * W = mul-le-mul-right W (omega arith) in omega (arith, rw (add-mul r 1 W) at e)
+      inside b h = omega (arith, row-inside r H W below)
 
       here : (t j b k : ℕ) → t / 16 ≡ r * W + c + b → t % 16 ≡ k → k < 4 → b < n → j < 8 → at (blocks t) j ≡ at (squareIn W U t) j
       here t j b k e upper l h g = through .parked t j (omega arith) (omega arith) (omega (arith, row)) (omega (arith, inside b h)) (omega arith) g
@@ -215,8 +216,7 @@ pub group-inside : (size : Size) (r c n m : ℕ) {dc low high : List ℤ} → m 
     → (m + n ≤ length dc) × (15 * (m + n) ≤ length low) × (240 * (m + n) ≤ length high)
 group-inside size r c n m place h k p =
     let W = size .width .0 in
-    let e : (r + 1) * W ≤ size .height .0 * W = mul-le-mul-right W (omega arith) in
-    let all : m + n ≤ macroblocks size = omega (arith, rw (add-mul r 1 W) at e) in
+    let all : m + n ≤ macroblocks size = omega (arith, row-inside r (size .height .0) W h) in
     (omega (arith, all, p .of-dc), omega (arith, all, p .of-low), omega (arith, all, p .of-high))
 
 -- ---- which of two cases

@@ -15,7 +15,7 @@ use Rattle.figures.specs.Figures.{fourFilter}
 use Rattle.picture.specs.Level.{cell, strip as line, filters}
 use Rattle.picture.specs.Sizes.{macroblocks, Sized}
 use Rattle.picture.specs.declared.size.Size.{Size}
-use Rattle.picture.proofs.CheckLaws.{few}
+use Rattle.picture.proofs.CheckLaws.{few-macroblocks}
 use Rattle.grid.proofs.Rows.{row-inside}
 use Rattle.forward_kernel.proofs.Stores.{below-four}
 use Rattle.forward_two_edges.specs.Unfiltered.{unfiltered, Edge}
@@ -133,12 +133,12 @@ pub place-low : (size : Size) → Sized size → (y x : ℕ) {a : ℕ} → a ≡
 place-low size z y x e h k =
     let W = size .width .0 in
     let H = size .height .0 in
-    (omega (arith, e, cell-low (4 * W) (4 * H) y x (omega arith) (omega arith)), omega (arith, few W H (z .most-wide) (z .most-tall)))
+    (omega (arith, e, cell-low (4 * W) (4 * H) y x (omega arith) (omega arith)), omega (arith, few-macroblocks z))
 
 -- the place of a later row is small too
-pub next-row : {size : Size} {r c : ℕ} {samples strip : List ℤ} → Given size r c samples strip → (y x a : ℕ) → a ≡ cell (4 * size .width .0) (16 * r + y) (16 * c + x) → 16 * r + y < 16 * size .height .0
+pub later-row-few : {size : Size} {r c : ℕ} {samples strip : List ℤ} → Given size r c samples strip → (y x a : ℕ) → a ≡ cell (4 * size .width .0) (16 * r + y) (16 * c + x) → 16 * r + y < 16 * size .height .0
     → 16 * c + x < 16 * size .width .0 → a + 64 * size .width .0 ≤ 55540800
-next-row {size} {r} {c} g y x a e h k = omega (arith, place-low size (g .sized) (16 * r + y) (16 * c + x) e h k, g .sized .most-wide)
+later-row-few {size} {r} {c} g y x a e h k = omega (arith, place-low size (g .sized) (16 * r + y) (16 * c + x) e h k, g .sized .most-wide)
 
 -- ---- what a line settles
 

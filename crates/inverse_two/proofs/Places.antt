@@ -13,7 +13,7 @@ use Rattle.figures.specs.Figures.{core}
 use Rattle.picture.specs.Planes.{table, coefficients, blockOrder, squareOf, place}
 use Rattle.lanes.proofs.Rows.{square-at}
 use Rattle.inverse_levels.specs.Filled.{Filled}
-use Rattle.inverse_levels.proofs.Filled.{square-not-after, filled-none, filled-join, filled-same}
+use Rattle.inverse_levels.proofs.Filled.{square-not-after, filled-join, filled-same}
 use Rattle.inverse_two.specs.Blocks.{blockNumbers, cored, InRows, InBlocks, RowsCored, BlocksCored, FourBlocks}
 
 module _ {W : ℕ} (wide : 0 < W) where
@@ -110,12 +110,6 @@ module _ {W : ℕ} (wide : 0 < W) where
 
   decided : (y e c d b : ℕ) → Dec (InBlocks W y e c d b)
   decided y e c d b = Dec·and (Dec·and (decLe _ _) (decLt _ _)) (Dec·and (decLe _ _) (decLt _ _))
-
-  pub blocks-none : (high : List ℤ) (y e c : ℕ) (v : List ℤ) → BlocksCored W high v y e c c v
-  blocks-none high y e c v = filled-none _ _ _ _ (λ b h. absurd (omega (arith, h)))
-
-  pub blocks-no-rows : (high : List ℤ) (y c d : ℕ) (v : List ℤ) → BlocksCored W high v y y c d v
-  blocks-no-rows high y c d v = filled-none _ _ _ _ (λ b h. absurd (omega (arith, h)))
 
   pub blocks-all : (high : List ℤ) (y e : ℕ) {old v : List ℤ} → BlocksCored W high old y e 0 W v → RowsCored W high old y e v
   blocks-all high y e = filled-same (InRows W y e) (λ b h. (h, (omega arith, omega (arith, mod-lt b {m = 4 * W} row-wide)))) (λ b h. h .0)

@@ -4,7 +4,6 @@ use mathlib.Core.Path.{_≡_, refl, sym, _∙_, ap}
 use mathlib.Core.List.{List, [], _∷_, _++_, map}
 use native.Mathlib.Omega.{arith}
 use native.Mathlib.Decide.{ℕ-discrete, decLt}
-use native.Mathlib.Nat.{mul-le-mul-right, suc-mul}
 use lib.Dec.{T}
 use lib.ListN.{length}
 use lib.IntN.{ℤ}
@@ -19,6 +18,7 @@ use Rattle.picture.proofs.Table.{at-table, table-same}
 use Rattle.picture.proofs.Squares.{sixteen, get-sixteen}
 use Rattle.picture.proofs.Levels.{rising-places}
 use Rattle.picture.proofs.Cells.{all-strip}
+use Rattle.grid.proofs.Rows.{row-inside}
 use Rattle.lanes.specs.Lanes.{laneOf, InLanes, Moved, Placed}
 
 -- ---- four places
@@ -139,7 +139,7 @@ rows-out-more s old v u w first m from to wide e f rows r = record {
         ap (at u) a ∙ r .own x l ∙ ap (at s) b
     own n x h l (no o) =
         let less : n < m = omega (arith, o) in
-        let above : n * w + w ≤ m * w = rw (← suc-mul n w) (mul-le-mul-right w less) in
+        let above = row-inside n m w less in
         r .rest (first + n * w + x) (λ z. absurd (omega arith)) ∙ rows .own n x less l
 
 pub all-placed : (s v0 v1 v2 v3 v4 : List ℤ) (w first : ℕ) → 16 ≤ w → Moved s 0 16 v0 first v1 → Moved s 16 16 v1 (first + w) v2 → Moved s 32 16 v2 (first + w + w) v3 → Moved s 48 16 v3 (first + w + w + w) v4

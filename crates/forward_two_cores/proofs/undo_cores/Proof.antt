@@ -8,7 +8,7 @@ use lib.ListN.{length}
 use lib.IntN.{ℤ}
 use Rattle.lifting.specs.Program.{undo}
 use Rattle.figures.specs.Figures.{core}
-use Rattle.picture.proofs.CheckLaws.{few}
+use Rattle.picture.proofs.CheckLaws.{few-macroblocks}
 use Rattle.grid.proofs.Rows.{row-inside}
 use Rattle.forward_two_cores.specs.Blocks.{blockOf, squareIn, Among, Replaced}
 use Rattle.forward_two_cores.proofs.Stores.{among-none, among-as, among-more}
@@ -35,7 +35,7 @@ inside c =
     let W = s .args .size .width .0 in
     let H = s .args .size .height .0 in
     let h = row-inside (l .loop .r) H W (omega arith) in
-    (omega (arith, l .loop .inv .5), omega (arith, l .loop .inv .6), few W H (s .pre .0 .most-wide) (s .pre .0 .most-tall))
+    (omega (arith, l .loop .inv .5), omega (arith, l .loop .inv .6), few-macroblocks (s .pre .0))
 
 -- the turn in which a row was undone
 abbrev turn : tie.After-high Inv-loop μ-loop → tie.In-loop Inv-loop μ-loop

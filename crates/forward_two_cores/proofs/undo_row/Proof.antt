@@ -8,7 +8,7 @@ use lib.ListN.{length}
 use lib.IntN.{ℤ}
 use Rattle.lifting.specs.Program.{undo}
 use Rattle.figures.specs.Figures.{core}
-use Rattle.picture.proofs.CheckLaws.{few}
+use Rattle.picture.proofs.CheckLaws.{few-macroblocks}
 use Rattle.forward_two_cores.specs.Blocks.{blockOf, squareIn, Among, Replaced}
 use Rattle.forward_two_cores.proofs.Stores.{replaced-as, among-none, among-one, among-as, among-more, sample-square, macroblock-inside}
 use Rattle.forward_two_cores.proofs.undo_row.Statement.{statement}
@@ -30,7 +30,7 @@ inside c =
     let a = s .args in
     let z = s .pre .0 .0 in
     let m = macroblock-inside (z .wide) (a .r) (c .before .loop .c) (omega arith) (s .pre .1 .0 .0) (s .pre .1 .0 .1) (a .size .height .0) (s .pre .0 .1) in
-    (m .0, m .1, few (a .size .width .0) (a .size .height .0) (z .most-wide) (z .most-tall))
+    (m .0, m .1, few-macroblocks z)
 
 loop-holds : tie.Need-loop-holds Inv-loop μ-loop
 loop-holds c = (omega arith, refl, refl, refl, among-as _ (c .args .m) (c .args .m + 0) refl (omega arith) (among-none (c .args .m) _ _))

@@ -5,7 +5,7 @@ use native.Mathlib.Omega.{arith}
 use borrow.Author.Needs.{needs}
 use Rattle.picture.specs.Level.{cell}
 use Rattle.forward_two_edges.specs.Strip.{Holds, Kept}
-use Rattle.forward_two_edges.proofs.Strips.{given-of, next-row, holds-kept, holds-under, holds-as, kept-none, kept-as, kept-then}
+use Rattle.forward_two_edges.proofs.Strips.{given-of, later-row-few, holds-kept, holds-under, holds-as, kept-none, kept-as, kept-then}
 use Rattle.forward_two_windows.proofs.windows.Statement.{statement}
 use Rattle.forward_two_windows.proofs.windows.Tie as tie
 
@@ -31,7 +31,7 @@ add-row : tie.Need-add-row Inv-loop μ-loop
 add-row c =
     let l = c .before .before .before .before in
     let s = l .before .before in
-    omega (arith, next-row (s .pre .0) (4 * l .loop .v + 2) 0 (l .loop .row) (omega (arith, l .loop .inv .3)) (omega (arith, s .pre .1 .1 .1)) (omega (arith, s .pre .0 .beside)))
+    omega (arith, later-row-few (s .pre .0) (4 * l .loop .v + 2) 0 (l .loop .row) (omega (arith, l .loop .inv .3)) (omega (arith, s .pre .1 .1 .1)) (omega (arith, s .pre .0 .beside)))
 
 loop-again : tie.Need-loop-again Inv-loop μ-loop
 loop-again c =

@@ -4,9 +4,8 @@ use mathlib.Core.Path.{_≡_, refl, ap}
 use mathlib.Core.Logic.{by-cases, Dec·and}
 use native.Mathlib.Omega.{arith}
 use native.Mathlib.Decide.{decLt, decLe}
-use native.Mathlib.Nat.{add-mul}
 use Rattle.picture.specs.Planes.{firstGrid}
-use Rattle.picture.proofs.CheckLaws.{few}
+use Rattle.picture.proofs.CheckLaws.{few-macroblocks}
 use Rattle.inverse_levels.specs.Filled.{Filled}
 use Rattle.inverse_levels.proofs.Filled.{filled-none, filled-join, filled-grid}
 use Rattle.grid.proofs.Rows.{row-inside}
@@ -36,7 +35,7 @@ module _ (h : tie.In-loop Inv-loop μ-loop) where
 
   -- the row after this one begins in the grid or at its end
   next : (l .loop .r + 1) * W ≤ 216825
-  next = omega (arith, add-mul (l .loop .r) 1 W, row-inside (l .loop .r) (s .args .size .height .0) W below, few W (s .args .size .height .0) (s .pre .0 .most-wide) (s .pre .0 .most-tall))
+  next = omega (arith, row-inside (l .loop .r) (s .args .size .height .0) W below, few-macroblocks (s .pre .0))
 
 grid-row-requires : tie.Need-grid-row-requires Inv-loop μ-loop
 grid-row-requires c κs =
@@ -49,11 +48,10 @@ loop-again c =
     let d = c .before in
     let h = d .before .before in
     let v = l h .loop .inv in
-    let m = l h .loop .m in
-    let row = add-mul (l h .loop .r) 1 (W h) in (
+    let m = l h .loop .m in (
       omega (arith, below h),
-      omega (arith, v .1, row),
-      omega (arith, v .2, row),
+      omega (arith, v .1),
+      omega (arith, v .2),
       filled-join (s h .pre .0 .wide) (Between 0 (m + W h)) (λ b. Dec·and (decLe _ _) (decLt _ _)) (λ b z o. (omega arith, by-cases (decLt b m) (λ y. y) (λ y. absurd (o (omega (arith, y), z .1))))) (λ b z. (omega arith, omega (arith, z))) (λ b z. (omega arith, z .1)) (λ b k z o. refl)
           (v .3) (d .grid-row .ensures),
     )

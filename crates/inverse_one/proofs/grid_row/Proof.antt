@@ -8,7 +8,7 @@ use Rattle.lifting.specs.Program.{at, put}
 use Rattle.lifting.proofs.Bits.{back}
 use Rattle.picture.specs.Level.{cell, square}
 use Rattle.picture.specs.Planes.{table, coefficients}
-use Rattle.picture.proofs.CheckLaws.{few}
+use Rattle.picture.proofs.CheckLaws.{few-macroblocks}
 use Rattle.inverse_levels.specs.Filled.{Filled}
 use Rattle.inverse_levels.proofs.Filled.{filled-none, filled-one, filled-join}
 use Rattle.grid.proofs.Rows.{row-inside}
@@ -52,7 +52,7 @@ module _ (h : tie.In-loop Inv-loop μ-loop) where
   square-inside = omega (arith, beside, row-inside (s .args .r) H W (s .pre .0 .1), s .pre .1 .0 .0)
 
   at-most : W * H ≤ 216825
-  at-most = few W H (s .pre .0 .0 .most-wide) (s .pre .0 .0 .most-tall)
+  at-most = few-macroblocks (s .pre .0 .0)
 
 loop-holds : tie.Need-loop-holds Inv-loop μ-loop
 loop-holds c = (omega arith, filled-none _ _ _ _ (λ b h. absurd (omega (arith, h))))

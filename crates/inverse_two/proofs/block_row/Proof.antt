@@ -3,8 +3,9 @@ use Prim.Native.Nat.{ℕ, _+_, _-_, _*_, _/_, _%_, _≤_, _<_}
 use mathlib.Core.Path.{_≡_}
 use native.Mathlib.Omega.{arith}
 use native.Mathlib.Nat.{mul-le-mul-right}
+use Rattle.inverse_levels.proofs.Filled.{filled-none}
 use Rattle.inverse_two.specs.Blocks.{BlocksCored}
-use Rattle.inverse_two.proofs.Places.{four-filled, blocks-none, left-of, free-row}
+use Rattle.inverse_two.proofs.Places.{four-filled, left-of, free-row}
 use Rattle.inverse_two.proofs.block_row.Statement.{statement}
 use Rattle.inverse_two.proofs.block_row.Tie as tie
 
@@ -15,7 +16,7 @@ abbrev μ-loop : tie.MeasureT-loop
 μ-loop samples₀ y at b high from p w c₀ samples c = c
 
 loop-holds : tie.Need-loop-holds Inv-loop μ-loop
-loop-holds c = let s = c .before in (omega arith, blocks-none (s .pre .0 .0) (s .args .high .now) (s .args .y) (s .args .y + 1) (s .args .width .0) (s .args .samples .now))
+loop-holds c = (omega arith, filled-none _ _ _ _ (λ b h. absurd (omega (arith, h))))
 
 -- the place of the first high-pass number of the four blocks
 order : (y c W : ℕ) → y < 4 → 60 * y + 240 * c ≡ 240 * (y / 4 * W + c) + 60 * (y % 4)

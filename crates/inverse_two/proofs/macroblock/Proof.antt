@@ -6,8 +6,9 @@ use native.Mathlib.Nat.{mul-le-mul-right}
 use lib.ListN.{length}
 use Rattle.picture.proofs.CheckLaws.{few}
 use Rattle.grid.proofs.Rows.{row-above}
+use Rattle.inverse_levels.proofs.Filled.{filled-none}
 use Rattle.inverse_two.specs.Blocks.{BlocksCored}
-use Rattle.inverse_two.proofs.Places.{four-filled, blocks-no-rows, above}
+use Rattle.inverse_two.proofs.Places.{four-filled, above}
 use Rattle.inverse_two.proofs.macroblock.Statement.{statement}
 use Rattle.inverse_two.proofs.macroblock.Tie as tie
 
@@ -66,7 +67,7 @@ module _ (h : tie.In-loop Inv-loop μ-loop) where
   high-at = omega (arith, l .loop .inv .3, h .loop-test, s .pre .1 .0 .2)
 
 loop-holds : tie.Need-loop-holds Inv-loop μ-loop
-loop-holds c = let a = c .before .args in (omega arith, omega arith, omega arith, omega arith, blocks-no-rows (omega (arith, c .before .pre .0)) (a .high .now) (4 * a .r + 4) (a .c) (a .c + 1) (a .samples .now))
+loop-holds c = (omega arith, omega arith, omega arith, omega arith, filled-none _ _ _ _ (λ b h. absurd (omega (arith, h))))
 
 four-blocks-requires : tie.Need-four-blocks-requires Inv-loop μ-loop
 four-blocks-requires c κs =

@@ -3,8 +3,9 @@ use Prim.Native.Nat.{_+_, _-_, _*_, _≤_}
 use mathlib.Core.Path.{_≡_}
 use native.Mathlib.Omega.{arith}
 use Rattle.picture.proofs.CheckLaws.{few}
+use Rattle.inverse_levels.proofs.Filled.{filled-none}
 use Rattle.inverse_two.specs.Blocks.{BlocksCored}
-use Rattle.inverse_two.proofs.Places.{blocks-none, blocks-all, left-of, free-below}
+use Rattle.inverse_two.proofs.Places.{blocks-all, left-of, free-below}
 use Rattle.inverse_two.proofs.macroblock_row.Statement.{statement}
 use Rattle.inverse_two.proofs.macroblock_row.Tie as tie
 
@@ -25,7 +26,7 @@ inside h =
     (omega (arith, h .before .loop .inv .0, s .pre .0 .1), omega (arith, at-most s, p .0), omega (arith, at-most s, p .1), omega (arith, at-most s, p .2))
 
 loop-holds : tie.Need-loop-holds Inv-loop μ-loop
-loop-holds c = let s = c .before in (omega arith, blocks-none (s .pre .0 .0) (s .args .high .now) (4 * s .args .r) (4 * s .args .r + 4) (s .args .width .0) (s .args .samples .now))
+loop-holds c = (omega arith, filled-none _ _ _ _ (λ b h. absurd (omega (arith, h))))
 
 macroblock-requires : tie.Need-macroblock-requires Inv-loop μ-loop
 macroblock-requires c κs =

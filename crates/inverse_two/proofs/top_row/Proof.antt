@@ -3,8 +3,9 @@ use Prim.Native.Nat.{_+_, _-_, _*_, _≤_}
 use mathlib.Core.Path.{_≡_}
 use native.Mathlib.Omega.{arith}
 use Rattle.grid.proofs.Rows.{row-above}
+use Rattle.inverse_levels.proofs.Filled.{filled-none}
 use Rattle.inverse_two.specs.Blocks.{BlocksCored}
-use Rattle.inverse_two.proofs.Places.{blocks-no-rows, blocks-all, above}
+use Rattle.inverse_two.proofs.Places.{blocks-all, above}
 use Rattle.inverse_two.proofs.top_row.Statement.{statement}
 use Rattle.inverse_two.proofs.top_row.Tie as tie
 
@@ -16,7 +17,7 @@ abbrev μ-loop : tie.MeasureT-loop
 μ-loop samples₀ width high p at₀ b₀ from₀ y₀ samples at b from y = y
 
 loop-holds : tie.Need-loop-holds Inv-loop μ-loop
-loop-holds c = let s = c .before in (omega arith, omega arith, omega arith, omega arith, blocks-no-rows (s .pre .0 .0) (s .args .high .now) 4 0 (s .args .width .0) (s .args .samples .now))
+loop-holds c = (omega arith, omega arith, omega arith, omega arith, filled-none _ _ _ _ (λ b h. absurd (omega (arith, h))))
 
 -- the next row of blocks is the one above
 up : (h : tie.In-loop Inv-loop μ-loop) → let W = h .before .before .before .args .width .0 in h .before .loop .y * W ≡ (h .before .loop .y - 1) * W + W

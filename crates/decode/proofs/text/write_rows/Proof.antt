@@ -6,7 +6,8 @@ use native.Mathlib.Omega.{arith}
 use lib.ListN.{length}
 use Rattle.decimal.specs.Text.{over}
 use Rattle.decode.specs.Shown.{rows}
-use Rattle.decode.proofs.Lines.{next-size, next-laid, row-below, last-row}
+use Rattle.grid.proofs.Rows.{row-inside}
+use Rattle.decode.proofs.Lines.{next-size, next-laid, last-row}
 use Rattle.decode.proofs.text.write_rows.Statement.{statement}
 use Rattle.decode.proofs.text.write_rows.Tie as tie
 
@@ -26,7 +27,7 @@ write-line-requires c κs =
     let t = c .before in
     let i = t .before .loop .inv in
     let s = t .before .before .before in
-    let below = row-below (t .before .loop .y) (s .args .w) (s .args .h) (t .loop-test .taken) in (
+    let below = row-inside (t .before .loop .y) (s .args .h) (s .args .w) (t .loop-test .taken) in (
       record { len = refl; fit = s .pre .0 .fit },
       (s .pre .1 .0, omega (arith, i .1, below, s .pre .0 .len), omega (arith, i .3, i .4, below, s .pre .1 .1)),
     )
@@ -36,13 +37,13 @@ add-at c =
     let l = c .before .before in
     let t = l .before .before in
     let s = t .before .before .before in
-    omega (arith, t .before .loop .inv .3, l .write-line .ensures .0 .1, row-below (t .before .loop .y) (s .args .w) (s .args .h) (t .loop-test .taken), s .pre .1 .1)
+    omega (arith, t .before .loop .inv .3, l .write-line .ensures .0 .1, row-inside (t .before .loop .y) (s .args .h) (s .args .w) (t .loop-test .taken), s .pre .1 .1)
 
 add-from : tie.Need-add-from Inv-loop μ-loop
 add-from c =
     let t = c .before .before .before .before in
     let s = t .before .before .before in
-    omega (arith, t .before .loop .inv .1, row-below (t .before .loop .y) (s .args .w) (s .args .h) (t .loop-test .taken), s .pre .0 .len, s .pre .1 .1)
+    omega (arith, t .before .loop .inv .1, row-inside (t .before .loop .y) (s .args .h) (s .args .w) (t .loop-test .taken), s .pre .0 .len, s .pre .1 .1)
 
 loop-again : tie.Need-loop-again Inv-loop μ-loop
 loop-again c =
