@@ -7,7 +7,7 @@ use native.Mathlib.Omega.{arith}
 use lib.ListN.{getD}
 use lib.IntN.{ℤ, pos}
 use lib.Signed.{mag}
-use Rattle.lifting.specs.Program.{Program, Operator, end, apply, at, get, put, run, undo}
+use Rattle.lifting.specs.Program.{Program, Operator, end, apply, at, get, put, run, undo, runBy, undoBy}
 use Rattle.lifting.proofs.Bits.{back}
 use Rattle.figures.specs.Block.{flat, list}
 use Rattle.figures.specs.declared.Four.{Four}
@@ -55,12 +55,12 @@ pub record Runs (p : Program) (v r : List ℤ) : Type 0 where
   pub gives : r ≡ run p v
 
 pub ended : {v : List ℤ} → Runs end v v
-unfolding run
+unfolding runBy
 ended = record { gives = refl }
 
 infixr 30 _▹_
 pub _▹_ : {o : Operator} {s : Program} {ps : List ℕ} {p : Program} {v u r : List ℤ} → u ≡ run s (get ps v) → Runs p (put ps u v) r → Runs (apply o s ps p) v r
-unfolding run
+unfolding runBy
 _▹_ {ps} {p} {v} e f = record { gives = f .gives ∙ ap (λ x. run p (put ps x v)) e }
 
 -- the program, on numbers that were read
@@ -75,12 +75,12 @@ pub record Undoes (p : Program) (v r : List ℤ) : Type 0 where
 
 -- from numbers that were read
 pub unended : {v r : List ℤ} → r ≡ v → Undoes end v r
-unfolding undo
+unfolding undoBy
 unended e = record { gives = e }
 
 infixl 30 _◃_
 pub _◃_ : {o : Operator} {s : Program} {ps : List ℕ} {p : Program} {v u r : List ℤ} → Undoes p v r → u ≡ undo s (get ps r) → Undoes (apply o s ps p) v (put ps u r)
-unfolding undo
+unfolding undoBy
 e ◃ f = record { gives = rw (← e .gives, ← f) }
 
 pub undone : (p : Program) (v : List ℤ) {r : List ℤ} → Undoes p v r → r ≡ undo p v

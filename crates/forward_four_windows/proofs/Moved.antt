@@ -5,7 +5,7 @@ use mathlib.Core.List.{List}
 use native.Mathlib.Omega.{arith}
 use lib.ListN.{length}
 use lib.IntN.{ℤ}
-use Rattle.lifting.specs.Program.{at, get, undo}
+use Rattle.lifting.specs.Program.{at, get, undo, undoBy}
 use Rattle.lifting.proofs.Reverse.{length-put}
 use Rattle.figures.specs.Figures.{squareFilter}
 use Rattle.picture.specs.Level.{square}
@@ -15,7 +15,7 @@ use Rattle.lanes.proofs.Rows.{square-at}
 use Rattle.forward_four_windows.specs.Windows.{windowAt, Windows}
 
 pub length-square : (v : List ℤ) → length v ≡ 16 → length (undo squareFilter v) ≡ 16
-unfolding undo squareFilter
+unfolding undoBy squareFilter
 length-square v h = simp length-put h
 
 -- held in lanes, undone and moved

@@ -5,7 +5,7 @@ use mathlib.Core.Bool.{Bool, true, false}
 use mathlib.Core.List.{List}
 use lib.Dec.{T}
 use lib.IntN.{ℤ}
-use Rattle.lifting.specs.Program.{end, undo}
+use Rattle.lifting.specs.Program.{end, undo, undoBy}
 use Rattle.lifting.proofs.Compose.{undo-then}
 use Rattle.picture.specs.Level.{cores, filters, level}
 
@@ -15,6 +15,6 @@ level-filtered true p q v h e f = rw (f, e) (sym (undo-then (cores p q) (filters
 level-filtered false p q v h e f = absurd (subst (λ (b : Bool). T b) (sym h) tt)
 
 pub level-plain : (b : Bool) (p q : ℕ) (v : List ℤ) {v1 : List ℤ} → b ≡ false → v1 ≡ undo (cores p q) v → v1 ≡ undo (level b p q) v
-unfolding level undo
+unfolding level undoBy
 level-plain false p q v h e = rw e (sym (undo-then (cores p q) end _))
 level-plain true p q v h e = absurd (subst (λ (b : Bool). T b) h tt)

@@ -8,7 +8,7 @@ use native.Mathlib.Decide.{decLt}
 use lib.ListN.{length, set}
 use lib.Seq.{getD-set-same, getD-set-other}
 use lib.IntN.{ℤ, pos}
-use Rattle.lifting.specs.Program.{at, get, undo}
+use Rattle.lifting.specs.Program.{at, get, undo, undoBy}
 use Rattle.figures.specs.Figures.{core}
 use Rattle.picture.specs.Level.{square}
 use Rattle.picture.specs.Planes.{coefficients}
@@ -64,7 +64,7 @@ replaced-in-place g {t} {n} {m} {old} p q = replaced-more p (replaced-as (t + n)
 -- ---- four blocks undone together
 
 length-undone : (w i : ℕ) (v : List ℤ) → length (undoneAt w i v) ≡ 16
-unfolding undoneAt undo core get
+unfolding undoneAt undoBy core get
 length-undone w i v = refl
 
 -- block l of what comes out, its coefficients 0 and 1 to 15 in two lists

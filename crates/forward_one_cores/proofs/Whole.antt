@@ -5,7 +5,7 @@ use mathlib.Core.Path.{_≡_, sym, _∙_, ap}
 use mathlib.Core.List.{List}
 use lib.ListN.{length}
 use lib.IntN.{ℤ}
-use Rattle.lifting.specs.Program.{at, get, undo}
+use Rattle.lifting.specs.Program.{at, get, undo, undoBy}
 use Rattle.lifting.proofs.Reverse.{length-put}
 use Rattle.lifting.proofs.Locality.{agree-refl}
 use Rattle.figures.specs.Figures.{core}
@@ -23,7 +23,7 @@ module _ {W : ℕ} (wide : 0 < W) (H : ℕ) (tall : 0 < H) (dc low : List ℤ) w
   its m h = square-places W m (firstGrid W H dc low) ∙ table-same 16 _ _ (λ k l. at-first wide H dc low m k h l)
 
   length-undone : length (undo (cores W H) (firstGrid W H dc low)) ≡ 16 * (W * H)
-  unfolding undo coreAt firstGrid
+  unfolding undoBy coreAt firstGrid
   length-undone =
       let v = firstGrid W H dc low in
       core-alone W H 0 0 tall wide .undoes v v agree-refl .len ∙ length-put (square (4 * W) (cell W 0 0)) _ v ∙ length-grid W H _

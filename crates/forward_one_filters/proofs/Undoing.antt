@@ -5,7 +5,7 @@ use mathlib.Core.List.{List}
 use native.Mathlib.Omega.{arith}
 use lib.ListN.{length}
 use lib.IntN.{ℤ}
-use Rattle.lifting.specs.Program.{Program, Operator, end, apply, get, put, undo, each}
+use Rattle.lifting.specs.Program.{Program, Operator, end, apply, get, put, undo, each, undoBy}
 use Rattle.lifting.proofs.Compose.{undo-each}
 use Rattle.picture.specs.declared.size.Size.{Size}
 use Rattle.forward_one_grid.specs.Held.{numbers, Held}
@@ -13,7 +13,7 @@ use Rattle.forward_one_grid.specs.Held.{numbers, Held}
 -- ---- a use
 
 pub used : (o : Operator) (s : Program) (ps : List ℕ) (v x y u : List ℤ) → x ≡ get ps v → y ≡ undo s x → u ≡ put ps y v → u ≡ undo (apply o s ps end) v
-unfolding undo
+unfolding undoBy
 used o s ps v x y u a b c = rw (c, b, a)
 
 -- ---- uses in a row: what is still to be undone
@@ -26,7 +26,7 @@ less (suc k) f v w e h a b = rw (b, back-one) (sym (undo-each k f v) ∙ a)
     back-one = omega arith
 
 none : (f : ℕ → Program) (i : ℕ) (v e : List ℤ) → i ≡ 0 → undo (each i f) v ≡ e → v ≡ e
-unfolding undo each
+unfolding undoBy each
 none f zero v e h a = a
 none f (suc i) v e h a = absurd (omega (arith, h))
 
@@ -53,7 +53,7 @@ undoing-step {f = f} {i = i} u h a b e =
 
 -- n uses at a time
 each-split : (a n : ℕ) (f : ℕ → Program) (v : List ℤ) → undo (each (a + n) f) v ≡ undo (each a f) (undo (each n (λ l. f (a + l))) v)
-unfolding each undo
+unfolding each undoBy
 each-split a zero f v = ap (λ (k : ℕ). undo (each k f) v) no-more
   where
     no-more : a + 0 ≡ a

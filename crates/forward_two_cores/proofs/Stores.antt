@@ -9,7 +9,7 @@ use lib.Arith.{digits-div, digits-mod}
 use lib.ListN.{length, set, length-set}
 use lib.Seq.{getD-set-same, getD-set-other}
 use lib.IntN.{ℤ, pos}
-use Rattle.lifting.specs.Program.{at, get, put, undo}
+use Rattle.lifting.specs.Program.{at, get, put, undo, undoBy}
 use Rattle.figures.specs.Block.{four}
 use Rattle.figures.specs.Figures.{core}
 use Rattle.picture.specs.Level.{strip, square}
@@ -93,7 +93,7 @@ module _ (w i : ℕ) (grid : List ℤ) (k : ℕ) {j : ℕ} (begins : j ≡ i + k
 
 module _ (w i : ℕ) (grid : List ℤ) where
   pub length-undone : (k : ℕ) → length (undoneIn w i grid k) ≡ 16
-  unfolding undoneAt undo core get
+  unfolding undoneAt undoBy core get
   length-undone k = refl
 
 -- ---- rows

@@ -6,7 +6,7 @@ use mathlib.Core.List.{List}
 use native.Mathlib.Omega.{arith}
 use lib.ListN.{length}
 use lib.IntN.{ℤ}
-use Rattle.lifting.specs.Program.{at, get, undo}
+use Rattle.lifting.specs.Program.{at, get, undo, undoBy}
 use Rattle.lifting.proofs.Reverse.{length-put}
 use Rattle.lifting.proofs.Locality.{agree-refl}
 use Rattle.figures.specs.Figures.{core}
@@ -26,7 +26,7 @@ squareOfGrid p s v = get (square (4 * p) (cell p (4 * (s / p)) (4 * (s % p)))) v
 
 module _ {p : ℕ} (wide : 0 < p) (q : ℕ) (tall : 0 < q) where
   length-undone : (v : List ℤ) → length (undo (cores p q) v) ≡ length v
-  unfolding undo coreAt
+  unfolding undoBy coreAt
   length-undone v = core-alone p q 0 0 tall wide .undoes v v agree-refl .len ∙ length-put (square (4 * p) (cell p 0 0)) _ v
 
   -- a grid of which each square is that of v with its core undone

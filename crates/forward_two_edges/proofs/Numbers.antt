@@ -10,7 +10,7 @@ use lib.Arith.{digits-lt}
 use lib.Dec.{T}
 use lib.ListN.{length, length-set}
 use lib.IntN.{ℤ}
-use Rattle.lifting.specs.Program.{Program, end, apply, Operator, at, get, line, back, undo}
+use Rattle.lifting.specs.Program.{Program, end, apply, Operator, at, get, line, back, undo, lineBy, undoBy}
 use Rattle.lifting.specs.Valid.{places}
 use Rattle.lifting.proofs.Reverse.{get-put, length-put}
 use Rattle.lifting.proofs.Between.{All}
@@ -30,19 +30,19 @@ pub cell-low : (p q y x : ℕ) → y < 4 * q → x < 4 * p → cell p y x < 16 *
 cell-low p q y x h k = omega (arith, digits-lt {q = y} {m = 4 * q} {r = x} {c = 4 * p} h k)
 
 pub length-square : (v : List ℤ) → length (undo squareFilter v) ≡ length v
-unfolding undo squareFilter
+unfolding undoBy squareFilter
 length-square v = simp length-put
 
 -- ---- the unfiltered numbers at the places of one use
 
 length-four : (v : List ℤ) → length (undo fourFilter v) ≡ length v
-unfolding undo fourFilter line back
+unfolding undoBy fourFilter lineBy back
 length-four v = simp (length-set, length-put)
 
 -- a use that is alone on its places
 alone-numbers : {P : ℕ → Type 0} {a : Program} {n : ℕ} (o : Operator) (f : Program) (ps : List ℕ) (s : List ℤ) → Does P a (apply o f ps end) → All P ps → T (places n ps)
     → length (undo f (get ps s)) ≡ length ps → length s ≡ n → get ps (undo a s) ≡ undo f (get ps s)
-unfolding undo
+unfolding undoBy
 alone-numbers {P} o f ps s d h t e l = get-same P ps h (d .undoes s s agree-refl) ∙ get-put ps (undo f (get ps s)) s t e l
 
 module _ (p q : ℕ) (s : List ℤ) (len : length s ≡ 16 * (p * q)) where
@@ -103,10 +103,10 @@ module _ (p q : ℕ) (s : List ℤ) (len : length s ≡ 16 * (p * q)) where
   -- rows y and y + 1, columns x and x + 1
   pub corner-at : (y x a b : ℕ) → 0 < p → 0 < q → Edge q y → Edge q (y + 1) → Edge p x → Edge p (x + 1) → a < 2 → b < 2 → x + b < 4 * p
       → at (undo (filters p q) s) (cell p (y + a) (x + b)) ≡ at s (cell p (y + a) (x + b))
-  unfolding undo
+  unfolding undoBy
   corner-at y x a b wide tall ey ey' ex ex' ha hb h =
       corner-alone p q y x wide tall ey ey' ex ex' .undoes s s agree-refl .same (cell p (y + a) (x + b)) (in-rectangle p y (y + 2) x (x + 2) (y + a) (x + b) h (omega arith) (omega arith) (omega arith) (omega arith))
 
 pub length-unfiltered : (p q : ℕ) (s : List ℤ) → 0 < p → 0 < q → length (undo (filters p q) s) ≡ length s
-unfolding undo
+unfolding undoBy
 length-unfiltered p q s wide tall = corner-alone p q 0 0 wide tall (inl (omega arith)) (inl (omega arith)) (inl (omega arith)) (inl (omega arith)) .undoes s s agree-refl .len

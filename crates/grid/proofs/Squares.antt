@@ -9,7 +9,7 @@ use lib.Signed.{mag}
 use mir.Syntax.{w32}
 use mir.Val.{SFits}
 use mir.ValLaws.{toZ-ofZ}
-use Rattle.lifting.specs.Program.{Program, Operator, end, apply, at, get, put, run}
+use Rattle.lifting.specs.Program.{Program, Operator, end, apply, at, get, put, run, runBy}
 use Rattle.lifting.proofs.Bits.{back}
 use Rattle.figures.specs.Block.{four, flat}
 use Rattle.figures.proofs.Parts.{kept}
@@ -66,7 +66,7 @@ square-stored v w i m a b c d = rw (d, c, b, a)
 
 -- one use of an operator: the numbers at its places, what it makes of them, and these at its places
 pub used : (o : Operator) (s : Program) (ps : List ℕ) (v x y : List ℤ) {u : List ℤ} → x ≡ get ps v → y ≡ run s x → u ≡ put ps y v → u ≡ run (apply o s ps end) v
-unfolding run
+unfolding runBy
 used o s ps v x y a b c = rw (c, b, a)
 
 -- the same where the operator takes its four numbers one by one and answers with four fields

@@ -9,7 +9,7 @@ use native.Mathlib.Nat.{add-mul}
 use lib.Arith.{digits-mod}
 use lib.ListN.{length}
 use lib.IntN.{ℤ}
-use Rattle.lifting.specs.Program.{Program, end, FourFilter, run, undo, each, _then_}
+use Rattle.lifting.specs.Program.{Program, end, FourFilter, run, undo, each, _then_, runBy, undoBy}
 use Rattle.lifting.proofs.Compose.{run-then, undo-then}
 use Rattle.lifting.proofs.Between.{All, all-map, Like, none-left, like-all}
 use Rattle.lifting.proofs.Locality.{Agree, agree-refl, use-inside, use-outside}
@@ -22,11 +22,11 @@ use Rattle.inverse_levels.proofs.Loops.{then-more}
 -- a program of which one part does nothing
 module _ {A : List ℤ → List ℤ → Type 0} (a b c : Program) where
   without-last : Like A a b → Like A c end → Like A (a then c) b
-  unfolding run undo
+  unfolding runBy undoBy
   without-last f g = record { runs = λ v w h. rw (run-then a c v) (g .runs _ _ (f .runs v w h)); undoes = λ v w h. rw (undo-then a c v) (f .undoes _ _ (g .undoes v w h)) }
 
   without-first : Like A a end → Like A c b → Like A (a then c) b
-  unfolding run undo
+  unfolding runBy undoBy
   without-first f g = record { runs = λ v w h. rw (run-then a c v) (g .runs _ _ (f .runs v w h)); undoes = λ v w h. rw (undo-then a c v) (f .undoes _ _ (g .undoes v w h)) }
 
 -- two lines of uses, the one inside a set of places and the other outside

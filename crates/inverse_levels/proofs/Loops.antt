@@ -6,11 +6,11 @@ use native.Mathlib.Numerals.{add-one}
 use native.Mathlib.Nat.{mul-le-mul}
 use native.Mathlib.Omega.{arith}
 use lib.IntN.{ℤ}
-use Rattle.lifting.specs.Program.{Program, run, each, _then_}
+use Rattle.lifting.specs.Program.{Program, run, each, _then_, runBy}
 use Rattle.lifting.proofs.Compose.{run-then, run-each}
 
 pub each-none : (f : ℕ → Program) (v : List ℤ) → v ≡ run (each 0 f) v
-unfolding run each
+unfolding runBy each
 each-none f v = refl
 
 pub each-more : (n : ℕ) (f : ℕ → Program) (v w u : List ℤ) → w ≡ run (each n f) v → u ≡ run (f n) w → u ≡ run (each (n + 1) f) v

@@ -6,7 +6,7 @@ use native.Mathlib.Omega.{arith}
 use lib.Arith.{digits-mod}
 use lib.ListN.{length}
 use lib.IntN.{ℤ}
-use Rattle.lifting.specs.Program.{Program, end, apply, Operator, get, put, run, each}
+use Rattle.lifting.specs.Program.{Program, end, apply, Operator, get, put, run, each, runBy}
 use Rattle.lifting.proofs.Reverse.{length-put}
 use Rattle.lifting.proofs.Compose.{run-each}
 use Rattle.lifting.proofs.Between.{All, all-map, none-left}
@@ -18,7 +18,7 @@ use Rattle.grid.proofs.Squares.{used}
 use Rattle.inverse_levels.proofs.Loops.{each-more}
 
 pub length-square-filter : (v : List ℤ) → length (run squareFilter v) ≡ length v
-unfolding run squareFilter
+unfolding runBy squareFilter
 length-square-filter v = simp length-put
 
 -- in a grid of w columns, the place i lies in the columns of square l of those from `first` on
@@ -41,7 +41,7 @@ square-beside w first l h =
 
 pub side-more : (o : Operator) (s : Program) (w first l : ℕ) (v0 v x : List ℤ) {u : List ℤ} → 4 * l + 4 ≤ w → v ≡ run (each l (λ i. apply o s (square w (first + 4 * i)) end)) v0
     → x ≡ run s (get (square w (first + 4 * l)) v0) → u ≡ put (square w (first + 4 * l)) x v → u ≡ run (each (l + 1) (λ i. apply o s (square w (first + 4 * i)) end)) v0
-unfolding run
+unfolding runBy
 side-more o s w first l v0 v x {u} room before made stored =
     each-more l f v0 v u before (used o s its v (get its v) x refl (made ∙ ap (run s) (sym same)) stored)
   where
@@ -62,7 +62,7 @@ side-more o s w first l v0 v x {u} room before made stored =
 
 -- n uses more
 plus : (i n : ℕ) (f g : ℕ → Program) (v : List ℤ) → ((k : ℕ) → k < n → g k ≡ f (i + k)) → run (each n g) (run (each i f) v) ≡ run (each (i + n) f) v
-unfolding each run
+unfolding each runBy
 plus i zero f g v h = ap (λ (m : ℕ). run (each m f) v) none
   where
     none : i ≡ i + 0

@@ -6,7 +6,7 @@ use mathlib.Core.List.{List}
 use native.Mathlib.Omega.{arith}
 use lib.ListN.{length}
 use lib.IntN.{ℤ}
-use Rattle.lifting.specs.Program.{at, run}
+use Rattle.lifting.specs.Program.{at, run, runBy}
 use Rattle.lifting.proofs.Between.{none-left}
 use Rattle.lifting.proofs.Locality.{Agree, agree-refl}
 use Rattle.figures.specs.Figures.{core}
@@ -23,7 +23,7 @@ use Rattle.inverse_two.proofs.Windows.{squaresIf}
 
 module _ {p : ℕ} (wide : 0 < p) (q : ℕ) where
   length-cores : (v : List ℤ) → length (run (cores p q) v) ≡ length v
-  unfolding run cores
+  unfolding runBy cores
   length-cores v = none-left (Agree (λ i. ⊥)) q (coresOfRow p) (λ j l. other-rows (λ i. ⊥) p j (λ k i c x. x)) .runs v v agree-refl .len
 
   grid-cored : (f : ℕ → ℕ → ℤ) → grid p q (cored f) ≡ run (cores p q) (grid p q f)
@@ -36,6 +36,6 @@ module _ {p : ℕ} (wide : 0 < p) (q : ℕ) where
 -- the blocks' core transforms, all square filters and the edges are level two
 pub level-two-is : (filtered : Bool) (W H : ℕ) → 0 < W → (view high : List ℤ) {v u : List ℤ} → v ≡ run (squaresIf filtered (4 * W) (4 * H)) (grid (4 * W) (4 * H) (cored (blockNumbers W view high)))
     → u ≡ run (edgesIf filtered (4 * W) (4 * H)) v → u ≡ run (level filtered (4 * W) (4 * H)) (secondGrid W H view high)
-unfolding level filters run secondGrid
+unfolding level filters runBy secondGrid
 level-two-is true W H wide view high a b = then-more _ _ _ (grid-cored {p = 4 * W} (omega arith) (4 * H) (blockNumbers W view high)) (then-more _ _ _ a b)
 level-two-is false W H wide view high a b = then-more _ _ _ (grid-cored {p = 4 * W} (omega arith) (4 * H) (blockNumbers W view high)) (b ∙ a)

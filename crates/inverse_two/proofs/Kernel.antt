@@ -5,7 +5,7 @@ use mathlib.Core.List.{List, [], _∷_}
 use native.Mathlib.Omega.{arith}
 use lib.ListN.{length}
 use lib.IntN.{ℤ}
-use Rattle.lifting.specs.Program.{at, get, run}
+use Rattle.lifting.specs.Program.{at, get, run, runBy}
 use Rattle.lifting.proofs.Reverse.{length-put}
 use Rattle.figures.specs.Block.{four, flat}
 use Rattle.figures.specs.Figures.{core, coreStages}
@@ -17,7 +17,7 @@ use Rattle.lanes.proofs.Rows.{four-numbers, joined}
 use Rattle.inverse_two.specs.Blocks.{blockFrom, blockInLane, FourBlocks}
 
 pub length-core : (v : List ℤ) → length (run core v) ≡ 16
-unfolding run core coreStages get
+unfolding runBy core coreStages get
 length-core v = simp length-put
 
 top-row : {x x' y y' z z' w w' : ℤ} → x ≡ x' → y ≡ y' → z ≡ z' → w ≡ w' → x ∷ y ∷ z ∷ w ∷ [] ≡ x' ∷ y' ∷ z' ∷ w' ∷ []

@@ -5,7 +5,7 @@ use mathlib.Core.Bool.{Bool, true, false}
 use mathlib.Core.List.{List}
 use native.Mathlib.Omega.{arith}
 use lib.IntN.{ℤ}
-use Rattle.lifting.specs.Program.{Program, end, SquareFilter, at, run, each}
+use Rattle.lifting.specs.Program.{Program, end, SquareFilter, at, run, each, runBy}
 use Rattle.lifting.proofs.Between.{all-map, Like, none-left, like-all, like-each}
 use Rattle.lifting.proofs.Locality.{Agree, agree-refl, use-inside, use-outside}
 use Rattle.figures.specs.Figures.{squareFilter}
@@ -23,7 +23,7 @@ abbrev pub Rows : ℕ → ℕ → ℕ → ℕ → Type 0
 Rows p b e i = (4 * b + 2 ≤ i / (4 * p)) × (i / (4 * p) < 4 * e + 2)
 
 turned : {P : ℕ → Type 0} {a : Program} → Like (Agree P) a end → Like (Agree P) end a
-unfolding run
+unfolding runBy
 turned {P} {a} f = record { runs = λ v w h. back (f .runs w v (back h)); undoes = λ v w h. back (f .undoes w v (back h)) }
   where
     back : {x y : List ℤ} → Agree P x y → Agree P y x
@@ -51,18 +51,18 @@ module _ (p q b n : ℕ) (room : b + n < q) where
       (λ k h o. turned (row-outside (Rows p b (b + n)) p k (λ i e z. o (omega arith) (omega arith))))
 
   pub windows-same : (filtered : Bool) {v w : List ℤ} → Agree (Rows p b (b + n)) v w → (i : ℕ) → Rows p b (b + n) i → at (run (windowsIf filtered p b n) v) i ≡ at (run (squaresIf filtered p q) w) i
-  unfolding run
+  unfolding runBy
   windows-same true a i h = rows-like .runs _ _ a .same i h
   windows-same false a i h = a .same i h
 
 pub windows-off : (filtered : Bool) (p b n : ℕ) (v : List ℤ) → Agree (λ i. ¬ Rows p b (b + n) i) (run (windowsIf filtered p b n) v) v
-unfolding run
+unfolding runBy
 windows-off true p b n v =
     none-left (Agree (λ i. ¬ Rows p b (b + n) i)) n (λ k. windowRow p (b + k)) (λ k h. row-outside (λ i. ¬ Rows p b (b + n) i) p (b + k) (λ i e z. z (omega arith, omega arith))) .runs v v agree-refl
 windows-off false p b n v = agree-refl
 
 pub squares-off : (filtered : Bool) (p q : ℕ) (v : List ℤ) → Agree (λ i. ¬ ((2 ≤ i / (4 * p)) × (i / (4 * p) + 2 < 4 * q))) (run (squaresIf filtered p q) v) v
-unfolding run squareFilters
+unfolding runBy squareFilters
 squares-off true p q v =
     none-left (Agree (λ i. ¬ ((2 ≤ i / (4 * p)) × (i / (4 * p) + 2 < 4 * q)))) (q - 1) (windowRow p)
     (λ k h. row-outside (λ i. ¬ ((2 ≤ i / (4 * p)) × (i / (4 * p) + 2 < 4 * q))) p k (λ i e z. z (omega arith, omega arith))) .runs v v agree-refl

@@ -9,7 +9,7 @@ use native.Mathlib.Decide.{ℕ-discrete, decLe, decLt}
 use lib.ListN.{length, set, drop, length-set}
 use lib.Seq.{set-out, getD-set-same, getD-set-other}
 use lib.IntN.{ℤ, pos}
-use Rattle.lifting.specs.Program.{Program, end, apply, Operator, at, get, put, run, undo, _then_, each}
+use Rattle.lifting.specs.Program.{Program, end, apply, Operator, at, get, put, run, undo, _then_, each, runBy, undoBy}
 use Rattle.lifting.proofs.Compose.{run-then, undo-then}
 
 -- P at all places of a list
@@ -64,7 +64,7 @@ pub record Like (A : List ℤ → List ℤ → Type 0) (a b : Program) : Type 0 
 
 module _ (A : List ℤ → List ℤ → Type 0) where
   pub like-end : Like A end end
-  unfolding run undo
+  unfolding runBy undoBy
   like-end = record { runs = λ v w h. h; undoes = λ v w h. h }
 
   pub like-then : (a b c d : Program) → Like A a c → Like A b d → Like A (a then b) (c then d)
@@ -74,7 +74,7 @@ module _ (A : List ℤ → List ℤ → Type 0) where
   }
 
   pub both-free : (a b : Program) → Like A a end → Like A end b → Like A a b
-  unfolding run undo
+  unfolding runBy undoBy
   both-free a b f g = record { runs = λ v w h. g .runs _ _ (f .runs v w h); undoes = λ v w h. g .undoes _ _ (f .undoes v w h) }
 
   pub none-left : (n : ℕ) (f : ℕ → Program) → ((i : ℕ) → i < n → Like A (f i) end) → Like A (each n f) end
@@ -94,7 +94,7 @@ module _ (A : List ℤ → List ℤ → Type 0) where
 
   -- uses on the right alone, after those that are matched
   more-right : (a b c : Program) → Like A a b → Like A end c → Like A a (b then c)
-  unfolding run undo
+  unfolding runBy undoBy
   more-right a b c f g = record {
     runs = λ v w h. rw (run-then b c w) (g .runs _ _ (f .runs v w h));
     undoes = λ v w h. rw (undo-then b c w) (f .undoes _ _ (g .undoes v w h));
@@ -145,11 +145,11 @@ module _ (R : Pairing) where
 
   -- a use whose places correspond to none, on the left, and on the right
   pub free-left : (o : Operator) (s : Program) (ps : List ℕ) → FreeLeft R ps → Like (Alike R) (apply o s ps end) end
-  unfolding run undo
+  unfolding runBy undoBy
   free-left o s ps h = record { runs = λ v w. put-left ps _ h; undoes = λ v w. put-left ps _ h }
 
   pub free-right : (o : Operator) (s : Program) (qs : List ℕ) → FreeRight R qs → Like (Alike R) end (apply o s qs end)
-  unfolding run undo
+  unfolding runBy undoBy
   free-right o s qs h = record { runs = λ v w. put-right qs _ h; undoes = λ v w. put-right qs _ h }
 
   module _ (one : OneToOne R) where
@@ -189,5 +189,5 @@ module _ (R : Pairing) where
     use-both F ps qs {v} {w} h a = rw (get-both ps qs h a) (put-both ps qs (F (get qs w)) h a)
 
     pub like-use : (o : Operator) (s : Program) (ps qs : List ℕ) → Pairs R ps qs → Like (Alike R) (apply o s ps end) (apply o s qs end)
-    unfolding run undo
+    unfolding runBy undoBy
     like-use o s ps qs h = record { runs = λ v w. use-both (run s) ps qs h; undoes = λ v w. use-both (undo s) ps qs h }

@@ -3,17 +3,17 @@ use Prim.Native.Nat.{ℕ, zero, suc}
 use mathlib.Core.Path.{_≡_, refl, sym, _∙_, ap}
 use mathlib.Core.List.{List, [], _∷_}
 use lib.IntN.{ℤ}
-use Rattle.lifting.specs.Program.{Program, end, _⨾_, reorder, apply, line, back, get, put, run, undo, _then_, each}
+use Rattle.lifting.specs.Program.{Program, end, _⨾_, reorder, apply, line, back, get, put, run, undo, _then_, each, runBy, undoBy}
 
 pub run-then : (p q : Program) (v : List ℤ) → run (p then q) v ≡ run q (run p v)
-unfolding run _then_
+unfolding runBy _then_
 run-then end q v = refl
 run-then (l ⨾ p) q v = run-then p q (line l v)
 run-then (reorder to back p) q v = run-then p q (get back v)
 run-then (apply o s ps p) q v = run-then p q (put ps (run s (get ps v)) v)
 
 pub undo-then : (p q : Program) (v : List ℤ) → undo (p then q) v ≡ undo p (undo q v)
-unfolding undo _then_
+unfolding undoBy _then_
 undo-then end q v = refl
 undo-then (l ⨾ p) q v = ap (line (back l)) (undo-then p q v)
 undo-then (reorder to back p) q v = ap (get to) (undo-then p q v)

@@ -6,7 +6,7 @@ use mathlib.Core.List.{List, [], _∷_}
 use native.Mathlib.Omega.{arith}
 use lib.ListN.{length}
 use lib.IntN.{ℤ}
-use Rattle.lifting.specs.Program.{Program, end, apply, Operator, at, get, put, run, undo}
+use Rattle.lifting.specs.Program.{Program, end, apply, Operator, at, get, put, run, undo, runBy, undoBy}
 use Rattle.lifting.proofs.Reverse.{length-put}
 use Rattle.lifting.proofs.Between.{All, all-map, Pairing, OneToOne, Pairs, Alike, Like, put-left, get-both, like-use}
 
@@ -42,11 +42,11 @@ module _ (P : ℕ → Type 0) where
   put-keeps ps xs {v} h a = of-alike (length-put ps xs v ∙ a .len) (put-left Itself ps xs (all-map ps (λ i n j r. n (r .0)) h) (to-alike a))
 
   pub use-outside : (o : Operator) (s : Program) (ps : List ℕ) → All (λ i. ¬ P i) ps → Like (Agree P) (apply o s ps end) end
-  unfolding run undo
+  unfolding runBy undoBy
   use-outside o s ps h = record { runs = λ v w. put-keeps ps _ h; undoes = λ v w. put-keeps ps _ h }
 
   pub use-inside : (o : Operator) (s : Program) (ps : List ℕ) → All P ps → Like (Agree P) (apply o s ps end) (apply o s ps end)
-  unfolding run undo
+  unfolding runBy undoBy
   use-inside o s ps h = record {
     runs = λ v w a. of-alike (length-put ps _ v ∙ a .len ∙ sym (length-put ps _ w)) (like .runs v w (to-alike a));
     undoes = λ v w a. of-alike (length-put ps _ v ∙ a .len ∙ sym (length-put ps _ w)) (like .undoes v w (to-alike a));

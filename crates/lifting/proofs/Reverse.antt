@@ -16,7 +16,7 @@ use mir.Syntax.{w32}
 use mir.Facts.{sfits-lit, and-yes, T-not}
 use Rattle.lifting.specs.Wrap.{wrap}
 use Rattle.lifting.proofs.WrapLaws.{wrap-fits, wrap-id, add-sub, sub-add, from-from, neg-neg}
-use Rattle.lifting.specs.Program.{Expr, var, _⊕_, _⊖_, 3×, _≫_, Line, _+=_, _-=_, _from_, neg, swap, Program, end, _⨾_, reorder, apply, at, value, line, get, put, run, back, undo}
+use Rattle.lifting.specs.Program.{Expr, var, _⊕_, _⊖_, 3×, _≫_, Line, _+=_, _-=_, _from_, neg, swap, Program, end, _⨾_, reorder, apply, at, value, line, get, put, run, back, undo, lineBy, runBy, undoBy, valueBy}
 use Rattle.lifting.specs.Row.{Row}
 use Rattle.lifting.specs.Valid.{without, validLine, notIn, places, counts, undoes, valid}
 
@@ -46,7 +46,7 @@ row-set : {n : ℕ} {v : List ℤ} (i : ℕ) {x : ℤ} → SFits w32 x → Row n
 row-set {v} i {x} h r = record { len = length-set v i x ∙ r .len; fit = fit-set v i h (r .fit) }
 
 row-line : {n : ℕ} (l : Line) {v : List ℤ} → Row n v → Row n (line l v)
-unfolding line
+unfolding lineBy
 row-line (i += e) r = row-set i (wrap-fits _) r
 row-line (i -= e) r = row-set i (wrap-fits _) r
 row-line (i from e) r = row-set i (wrap-fits _) r
@@ -117,7 +117,7 @@ pub row-reorder : {n : ℕ} {v : List ℤ} (ps qs : List ℕ) → T (undoes n ps
 row-reorder {n} {v} ps qs t r = let g = row-get ps r in record { len = g .len ∙ undoes-length ps qs t; fit = g .fit }
 
 pub row-run : {n : ℕ} {v : List ℤ} (p : Program) → T (valid n p) → Row n v → Row n (run p v)
-unfolding run
+unfolding runBy
 row-run end t r = r
 row-run {n} (l ⨾ p) t r = row-run p (and-yes (validLine n l) _ t .1) (row-line l r)
 row-run {n} (reorder to back p) t r =
@@ -130,7 +130,7 @@ row-run {n} (apply o s ps p) t r =
     row-run p d (row-put ps (row-run s c (row-get ps r)) r)
 
 pub row-undo : {n : ℕ} {v : List ℤ} (p : Program) → T (valid n p) → Row n v → Row n (undo p v)
-unfolding undo
+unfolding undoBy
 row-undo end t r = r
 row-undo {n} (l ⨾ p) t r = row-line (back l) (row-undo p (and-yes (validLine n l) _ t .1) r)
 row-undo {n} (reorder to back p) t r =
@@ -146,7 +146,7 @@ row-undo {n} (apply o s ps p) t r =
 -- ---- a line
 
 value-set : (n : ℕ) (e : Expr) (v : List ℤ) (i : ℕ) (x : ℤ) → T (without n i e) → value e (set v i x) ≡ value e v
-unfolding value
+unfolding valueBy
 value-set n (var j) v i x t = getD-set-other v i j x (pos 0) (λ q. apart i j (and-yes (ltb j n) _ t .1) (sym q))
 value-set n (e ⊕ k) v i x t = rw (value-set n e v i x t)
 value-set n (e ⊖ f) v i x t = let h = and-yes (without n i e) (without n i f) t in rw (value-set n e v i x (h .0), value-set n f v i x (h .1))
@@ -165,7 +165,7 @@ module _ (F G : ℤ → ℤ → ℤ) (back-F : (a t : ℤ) → SFits w32 a → G
       undo-set v i _ _ (rw (getD-set-same v i _ (pos 0) h, value-set n e v i _ c) (back-F (at v i) (value e v) (r .fit i)))
 
 pub line-back : {n : ℕ} {v : List ℤ} (l : Line) → T (validLine n l) → Row n v → line (back l) (line l v) ≡ v
-unfolding line back
+unfolding lineBy back
 line-back (i += e) t r = update-back (λ a x. wrap (a +ℤ x)) (λ a x. wrap (a -ℤ x)) (λ a x f. add-sub x f) i e t r
 line-back (i -= e) t r = update-back (λ a x. wrap (a -ℤ x)) (λ a x. wrap (a +ℤ x)) (λ a x f. sub-add x f) i e t r
 line-back (i from e) t r = update-back (λ a x. wrap (x -ℤ a)) (λ a x. wrap (x -ℤ a)) (λ a x f. from-from x f) i e t r
@@ -238,7 +238,7 @@ use-back {n} {v} ps F G t r h e = rw (get-put ps (F (get ps v)) v t h (r .len), 
 -- ---- a program
 
 pub undo-run : {n : ℕ} {v : List ℤ} (p : Program) → T (valid n p) → Row n v → undo p (run p v) ≡ v
-unfolding undo run
+unfolding undoBy runBy
 undo-run end t r = refl
 undo-run {n} (l ⨾ p) t r =
     let (a, b) = and-yes (validLine n l) _ t in
@@ -254,7 +254,7 @@ undo-run {n} {v} (apply o s ps p) t r =
     rw (undo-run p d (row-put ps (row-run s c g) r)) (use-back ps (run s) (undo s) a r (row-run s c g .len) (undo-run s c g))
 
 pub run-undo : {n : ℕ} {v : List ℤ} (p : Program) → T (valid n p) → Row n v → run p (undo p v) ≡ v
-unfolding undo run
+unfolding undoBy runBy
 run-undo end t r = refl
 run-undo {n} (l ⨾ p) t r =
     let (a, b) = and-yes (validLine n l) _ t in

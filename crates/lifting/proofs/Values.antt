@@ -4,7 +4,7 @@ use mathlib.Core.Path.{_≡_, refl}
 use mathlib.Core.List.{List, [], _∷_, map}
 use lib.IntN.{ℤ, pos, negℤ}
 use Rattle.lifting.specs.Wrap.{wrap}
-use Rattle.lifting.specs.Program.{var, _⊕_, _⊖_, 3×, _≫_, value}
+use Rattle.lifting.specs.Program.{var, _⊕_, _⊖_, 3×, _≫_, value, valueBy}
 
 abbrev minus : ℕ → ℤ
 minus n = negℤ (pos n)
@@ -12,5 +12,5 @@ minus n = negℤ (pos n)
 pub steps-give : map (λ e. value e (pos 2147483647 ∷ minus 5 ∷ []))
     ((var 0 ⊕ pos 1) ∷ (var 0 ⊖ var 1) ∷ 3× (var 0) ∷ (var 1 ≫ 1) ∷ (var 1 ≫ 3) ∷ (var 0 ≫ 1) ∷ [])
     ≡ minus 2147483648 ∷ minus 2147483644 ∷ pos 2147483645 ∷ minus 3 ∷ minus 1 ∷ pos 1073741823 ∷ []
-unfolding wrap value
+unfolding wrap valueBy
 steps-give = refl

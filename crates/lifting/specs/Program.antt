@@ -42,20 +42,20 @@ pub data Program : Type 0 where
 abbrev pub at : List ℤ → ℕ → ℤ
 at v i = getD v i (pos 0)
 
--- every sum, difference and multiple of 3 is reduced; >> rounds toward minus infinity
-unfoldable pub value : Expr → List ℤ → ℤ
-value (var i) v = at v i
-value (e ⊕ k) v = wrap (value e v +ℤ k)
-value (e ⊖ f) v = wrap (value e v -ℤ value f v)
-value (3× e) v = wrap (pos 3 *ℤ value e v)
-value (e ≫ k) v = shrZ (value e v) (2 ^ k)
+-- with `reduce` for what becomes of every sum, difference and multiple of 3; >> rounds toward minus infinity
+unfoldable pub valueBy : (ℤ → ℤ) → Expr → List ℤ → ℤ
+valueBy reduce (var i) v = at v i
+valueBy reduce (e ⊕ k) v = reduce (valueBy reduce e v +ℤ k)
+valueBy reduce (e ⊖ f) v = reduce (valueBy reduce e v -ℤ valueBy reduce f v)
+valueBy reduce (3× e) v = reduce (pos 3 *ℤ valueBy reduce e v)
+valueBy reduce (e ≫ k) v = shrZ (valueBy reduce e v) (2 ^ k)
 
-unfoldable pub line : Line → List ℤ → List ℤ
-line (i += e) v = set v i (wrap (at v i +ℤ value e v))
-line (i -= e) v = set v i (wrap (at v i -ℤ value e v))
-line (i from e) v = set v i (wrap (value e v -ℤ at v i))
-line (neg i) v = set v i (wrap (negℤ (at v i)))
-line (swap i j) v = set (set v i (at v j)) j (at v i)
+unfoldable pub lineBy : (ℤ → ℤ) → Line → List ℤ → List ℤ
+lineBy reduce (i += e) v = set v i (reduce (at v i +ℤ valueBy reduce e v))
+lineBy reduce (i -= e) v = set v i (reduce (at v i -ℤ valueBy reduce e v))
+lineBy reduce (i from e) v = set v i (reduce (valueBy reduce e v -ℤ at v i))
+lineBy reduce (neg i) v = set v i (reduce (negℤ (at v i)))
+lineBy reduce (swap i j) v = set (set v i (at v j)) j (at v i)
 
 -- the numbers at the places ps
 unfoldable pub get : List ℕ → List ℤ → List ℤ
@@ -67,11 +67,11 @@ unfoldable pub put : List ℕ → List ℤ → List ℤ → List ℤ
 put [] xs v = v
 put (p ∷ ps) xs v = put ps (drop 1 xs) (set v p (at xs 0))
 
-unfoldable pub run : Program → List ℤ → List ℤ
-run end v = v
-run (l ⨾ p) v = run p (line l v)
-run (reorder to back p) v = run p (get back v)
-run (apply o s ps p) v = run p (put ps (run s (get ps v)) v)
+unfoldable pub runBy : (ℤ → ℤ) → Program → List ℤ → List ℤ
+runBy reduce end v = v
+runBy reduce (l ⨾ p) v = runBy reduce p (lineBy reduce l v)
+runBy reduce (reorder to back p) v = runBy reduce p (get back v)
+runBy reduce (apply o s ps p) v = runBy reduce p (put ps (runBy reduce s (get ps v)) v)
 
 -- the line that takes a line back
 unfoldable pub back : Line → Line
@@ -82,11 +82,24 @@ back (neg i) = neg i
 back (swap i j) = swap i j
 
 -- the same program undone, from its last line to its first
-unfoldable pub undo : Program → List ℤ → List ℤ
-undo end v = v
-undo (l ⨾ p) v = line (back l) (undo p v)
-undo (reorder to back p) v = get to (undo p v)
-undo (apply o s ps p) v = put ps (undo s (get ps (undo p v))) (undo p v)
+unfoldable pub undoBy : (ℤ → ℤ) → Program → List ℤ → List ℤ
+undoBy reduce end v = v
+undoBy reduce (l ⨾ p) v = lineBy reduce (back l) (undoBy reduce p v)
+undoBy reduce (reorder to back p) v = get to (undoBy reduce p v)
+undoBy reduce (apply o s ps p) v = put ps (undoBy reduce s (get ps (undoBy reduce p v))) (undoBy reduce p v)
+
+-- the steps of 01: each result reduced into the signed 32-bit range
+abbrev pub value : Expr → List ℤ → ℤ
+value = valueBy wrap
+
+abbrev pub line : Line → List ℤ → List ℤ
+line = lineBy wrap
+
+abbrev pub run : Program → List ℤ → List ℤ
+run = runBy wrap
+
+abbrev pub undo : Program → List ℤ → List ℤ
+undo = undoBy wrap
 
 -- one program and then another
 infixr 30 _then_

@@ -8,7 +8,7 @@ use native.Mathlib.Decide.{ℕ-discrete}
 use native.Mathlib.Nat.{mod-lt, div-lt-iff-lt-mul}
 use lib.ListN.{length}
 use lib.IntN.{ℤ}
-use Rattle.lifting.specs.Program.{Program, end, _⨾_, reorder, apply, Operator, Core, at, get, put, run, undo, _then_, each}
+use Rattle.lifting.specs.Program.{Program, end, _⨾_, reorder, apply, Operator, Core, at, get, put, run, undo, _then_, each, runBy, undoBy}
 use Rattle.lifting.proofs.Between.{All, all-map, Like, like-then, none-left}
 use Rattle.lifting.proofs.Locality.{Agree, agree-refl, use-inside, use-outside}
 use Rattle.lifting.proofs.Reverse.{length-put}
@@ -79,11 +79,11 @@ core-alone p q j i hj hi =
     (λ k l n. other-rows (InCell 0 p j i) p k (λ m x c d. n (sym (c .row) ∙ d .row)))
 
 length-undo-core : (v : List ℤ) → length (undo core v) ≡ 16
-unfolding undo core get
+unfolding undoBy core get
 length-undo-core v = refl
 
 length-run-core : (v : List ℤ) → length (run core v) ≡ 16
-unfolding run core coreStages get
+unfolding runBy core coreStages get
 length-run-core v = simp length-put
 
 -- the square s of the grid, in raster order, before or after its core
@@ -102,11 +102,11 @@ module _ {p : ℕ} (wide : 0 < p) (q s : ℕ) (low : s < p * q) where
   stored xs v e l k h = rw (square-is p (4 * (s / p)) (4 * (s % p))) (own wide q s low xs v e (omega (arith, l)) k h)
 
   pub core-undone-at : (v : List ℤ) → length v ≡ 16 * (p * q) → (k : ℕ) → k < 16 → at (undo (cores p q) v) (place p s k) ≡ at (undo core (get its v)) k
-  unfolding undo coreAt
+  unfolding undoBy coreAt
   core-undone-at v l k h =
       core-alone p q (s / p) (s % p) row-low (mod-lt s wide) .undoes v v agree-refl .same (place p s k) (place-in-cell k h) ∙ stored (undo core (get its v)) v (length-undo-core (get its v)) l k h
 
   pub core-run-at : (v : List ℤ) → length v ≡ 16 * (p * q) → (k : ℕ) → k < 16 → at (run (cores p q) v) (place p s k) ≡ at (run core (get its v)) k
-  unfolding run coreAt
+  unfolding runBy coreAt
   core-run-at v l k h =
       core-alone p q (s / p) (s % p) row-low (mod-lt s wide) .runs v v agree-refl .same (place p s k) (place-in-cell k h) ∙ stored (run core (get its v)) v (length-run-core (get its v)) l k h

@@ -11,7 +11,7 @@ use native.Mathlib.Nat.{add-zero}
 use lib.Arith.{digits-div, digits-mod, digits-lt}
 use lib.ListN.{length}
 use lib.IntN.{ℤ}
-use Rattle.lifting.specs.Program.{at, run}
+use Rattle.lifting.specs.Program.{at, run, runBy}
 use Rattle.lifting.proofs.Compose.{run-then}
 use Rattle.picture.specs.Level.{cell, cores, filters, level}
 use Rattle.picture.specs.Planes.{grid, squareOf, coefficientOf}
@@ -98,7 +98,7 @@ module _ (p k P q : ℕ) (fits : k + p ≤ P) (y x : ℕ) (tall : y < 4 * q) (h 
 
   pub level-at : (filtered : Bool) → Clear (reach filtered) → (v w : List ℤ) → Alike (Twin 0 p k P q (Reaching filtered y x)) v w
       → at (run (level filtered p q) v) (cell p y x) ≡ at (run (level filtered P q) w) (cell P y (4 * k + x))
-  unfolding level run
+  unfolding level runBy
   level-at false clear v w a =
       rw (run-then (cores p q) _ v, run-then (cores P q) _ w)
       (cores-alike false a .same (record { row = y; column = x; low = tall; narrow = h; small = refl; wide = refl; within = record { row = own-near y; column = own-near x } }))

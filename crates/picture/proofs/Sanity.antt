@@ -13,7 +13,7 @@ use mir.Syntax.{w32}
 use Rattle.lifting.specs.Tests.{all}
 use Rattle.lifting.specs.Row.{Row}
 use Rattle.lifting.specs.Wrap.{wrap}
-use Rattle.lifting.specs.Program.{end, at, run, line, value, get, put, _then_, each}
+use Rattle.lifting.specs.Program.{end, at, run, line, value, get, put, _then_, each, lineBy, runBy, valueBy}
 use Rattle.figures.specs.Figures.{hadamard, odd, oddOdd, core, coreStages, rotation, scale, postHadamard, postOddOdd, fourFilter, squareFilter}
 use Rattle.picture.specs.declared.size.Size.{Size}
 use Rattle.picture.specs.Level.{square, coreAt, squareFilterAt, fourFilterAt, cores, squareFilters, rowFilters, columnFilters, filters, level}
@@ -47,7 +47,7 @@ abbrev nineOnes : ℕ → ℕ → ℤ
 nineOnes y x = cond (isBlock (y / 4 * 4 + x / 4) && isSample (y % 4) (x % 4)) (pos 1) (pos 0)
 
 pub bench : (inverse 0 (of 1 1) (dcOnly 1 (pos 1 ∷ [])) ≡ table 256 (λ i. nineOnes (i / 16) (i % 16))) × (inverse 0 (of 1 1) (dcOnly 1 (pos 64 ∷ [])) ≡ table 256 (λ i. pos 4))
-unfolding wrap run line value get put _then_ each hadamard odd oddOdd core coreStages square coreAt cores level table grid firstGrid secondGrid quarterBy inverseBy
+unfolding wrap runBy lineBy valueBy get put _then_ each hadamard odd oddOdd core coreStages square coreAt cores level table grid firstGrid secondGrid quarterBy inverseBy
 bench = (refl, refl)
 
 -- ---- how far a DC number reaches over the edge of its macroblock: as far as the windows of 01 say, and no less
@@ -83,7 +83,7 @@ abbrev columnsBetween : ℕ → ℕ → List ℤ → Bool
 columnsBetween a b samples = all 16 (λ x. Bool·beq (some 16 (λ y. changed (at samples (y * 16 + x)))) (leb a x && ltb x b))
 
 pub reached : T (columnsBelow (16 + lowMargin 1) (left 1) && columnsBelow (16 + lowMargin 2) (left 2) && rowsFrom (16 - lowMargin 2) lower && columnsBetween (4 - highMargin 1) (8 + highMargin 1) inner)
-unfolding wrap run line value get put _then_ each hadamard odd oddOdd core coreStages rotation scale postHadamard postOddOdd fourFilter squareFilter square coreAt squareFilterAt fourFilterAt cores squareFilters rowFilters columnFilters filters level table grid firstGrid secondGrid quarterBy inverseBy
+unfolding wrap runBy lineBy valueBy get put _then_ each hadamard odd oddOdd core coreStages rotation scale postHadamard postOddOdd fourFilter squareFilter square coreAt squareFilterAt fourFilterAt cores squareFilters rowFilters columnFilters filters level table grid firstGrid secondGrid quarterBy inverseBy
 reached = tt
 
 -- ---- each half of the claim over whole pictures, cited at a concrete place

@@ -8,7 +8,7 @@ use native.Mathlib.Decide.{decLt}
 use native.Mathlib.Nat.{mul-le-mul}
 use lib.ListN.{length}
 use lib.IntN.{ℤ, pos}
-use Rattle.lifting.specs.Program.{Program, at, run, _then_}
+use Rattle.lifting.specs.Program.{Program, at, run, _then_, runBy}
 use Rattle.lifting.proofs.Compose.{run-then}
 use Rattle.lifting.proofs.Reverse.{length-put}
 use Rattle.picture.specs.declared.size.Size.{Size}
@@ -33,15 +33,15 @@ keeps-then a b f g v = ap length (run-then a b v) ∙ g (run a v) ∙ f v
 
 module _ (p q : ℕ) (wide : 0 < p) (tall : 0 < q) where
   keeps-cores : OfCores KeepsLength p q
-  unfolding run coreAt
+  unfolding runBy coreAt
   keeps-cores j i l m v = length-put _ _ v
 
   keeps-filters : OfFilters KeepsLength p q
-  unfolding run squareFilterAt fourFilterAt
+  unfolding runBy squareFilterAt fourFilterAt
   keeps-filters = record { squares = λ j i l m v. length-put _ _ v; rows = λ r i l m v. length-put _ _ v; columns = λ c j l m v. length-put _ _ v }
 
   pub length-level : (filtered : Bool) → KeepsLength (level filtered p q)
-  unfolding level run
+  unfolding level runBy
   length-level true = keeps-then _ _ (of-cores KeepsLength (λ v. refl) keeps-then p q keeps-cores) (of-filters KeepsLength (λ v. refl) keeps-then p q wide tall keeps-filters)
   length-level false = keeps-then _ _ (of-cores KeepsLength (λ v. refl) keeps-then p q keeps-cores) (λ v. refl)
 

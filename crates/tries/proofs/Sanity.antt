@@ -5,7 +5,7 @@ use mathlib.Core.Bool.{Bool, true, false}
 use mathlib.Core.List.{List, [], _∷_}
 use lib.IntN.{pos}
 use Rattle.lifting.specs.Wrap.{wrap}
-use Rattle.lifting.specs.Program.{run, back, undo, line, value, get, put, _then_, each}
+use Rattle.lifting.specs.Program.{run, back, undo, line, value, get, put, _then_, each, lineBy, runBy, undoBy, valueBy}
 use Rattle.figures.specs.Figures.{hadamard, odd, oddOdd, core, coreStages}
 use Rattle.picture.specs.Level.{square, coreAt, cores, level}
 use Rattle.picture.specs.Planes.{table, grid, firstGrid, secondGrid, dcOf, lowOf, viewOf, highOf}
@@ -26,5 +26,5 @@ abbrev bright : ℕ → ℕ → Bool
 bright = passes 0 (of 1 1) (inverse 0 (of 1 1) (dcOnly 1 (pos 2147483647 ∷ [])))
 
 pub computed : (grey 0 32 ≡ true) × (grey 4 255 ≡ true) × (grey 3 255 ≡ false) × (bright 4294967295 2 ≡ false)
-unfolding wrap run back undo line value get put _then_ each hadamard odd oddOdd core coreStages square coreAt cores level table grid firstGrid secondGrid dcOf lowOf viewOf highOf quarterBy inverseBy secondUndone firstUndone forwardBy stepOf quantised quantisedPlanes restoredPlanes triedPlanesBy triedSamplesBy passesBy
+unfolding wrap runBy back undoBy lineBy valueBy get put _then_ each hadamard odd oddOdd core coreStages square coreAt cores level table grid firstGrid secondGrid dcOf lowOf viewOf highOf quarterBy inverseBy secondUndone firstUndone forwardBy stepOf quantised quantisedPlanes restoredPlanes triedPlanesBy triedSamplesBy passesBy
 computed = (refl, refl, refl, refl)

@@ -1,6 +1,6 @@
 -- The reorder, and then the two stages.
 use mathlib.Core.Path.{_∙_, ap}
-use Rattle.lifting.specs.Program.{run}
+use Rattle.lifting.specs.Program.{run, runBy}
 use Rattle.figures.specs.Figures.{core}
 use Rattle.figures.specs.Pieces.{quarterStage, coreMirroredStage}
 use Rattle.core_transform.proofs.Stages.{quarter-run, mirrored-run, stages-run}
@@ -8,7 +8,7 @@ use Rattle.core_transform.proofs.core.Statement.{statement}
 use Rattle.core_transform.proofs.core.Tie as tie
 
 returns : tie.Need-returns
-unfolding run core
+unfolding runBy core
 returns c6 =
     let c5 = c6 .before in
     let c4 = c5 .before in

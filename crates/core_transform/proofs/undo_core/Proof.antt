@@ -1,6 +1,6 @@
 -- The two stages undone, and then the reorder.
 use mathlib.Core.Path.{_∙_, ap}
-use Rattle.lifting.specs.Program.{undo, get}
+use Rattle.lifting.specs.Program.{undo, get, undoBy}
 use Rattle.figures.specs.Figures.{inverseReorder, core}
 use Rattle.figures.specs.Pieces.{quarterStage, coreMirroredStage}
 use Rattle.core_transform.proofs.Stages.{quarter-undo, mirrored-undo, stages-undo}
@@ -8,7 +8,7 @@ use Rattle.core_transform.proofs.undo_core.Statement.{statement}
 use Rattle.core_transform.proofs.undo_core.Tie as tie
 
 returns : tie.Need-returns
-unfolding undo core
+unfolding undoBy core
 returns c7 =
     let c6 = c7 .before in
     let c5 = c6 .before in

@@ -1,7 +1,7 @@
 -- The first lines of Figure 4.13 from the last to the first, each by what its calls ensure; the rotation among them by its own lines.
 use mir.Syntax.{w32}
 use mir.ValLaws.{toZ-ofZ}
-use Rattle.lifting.specs.Program.{undo, back, line, value, get, put}
+use Rattle.lifting.specs.Program.{undo, back, line, value, get, put, lineBy, undoBy, valueBy}
 use Rattle.lifting.proofs.Bits.{again, again-shr}
 use borrow.Author.Needs.{needs}
 use Rattle.figures.specs.Figures.{rotation}
@@ -11,7 +11,7 @@ use Rattle.four_filter.proofs.undo_four_rotation.Statement.{statement}
 use Rattle.four_filter.proofs.undo_four_rotation.Tie as tie
 
 returns : tie.Need-returns
-unfolding undo back line value get put rotation fourRotation
+unfolding undoBy back lineBy valueBy get put rotation fourRotation
 returns c13 =
     let c12 = c13 .before in
     let c11 = c12 .before in

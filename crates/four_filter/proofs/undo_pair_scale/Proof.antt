@@ -1,7 +1,7 @@
 -- The last lines of Figure 4.13 from the last to the first, each by what its calls ensure.
 use mir.Syntax.{w32}
 use mir.ValLaws.{toZ-ofZ}
-use Rattle.lifting.specs.Program.{undo, back, line, value}
+use Rattle.lifting.specs.Program.{undo, back, line, value, lineBy, undoBy, valueBy}
 use Rattle.lifting.proofs.Bits.{again, again-shr}
 use borrow.Author.Needs.{needs}
 use Rattle.figures.specs.Pieces.{pairScale}
@@ -9,7 +9,7 @@ use Rattle.four_filter.proofs.undo_pair_scale.Statement.{statement}
 use Rattle.four_filter.proofs.undo_pair_scale.Tie as tie
 
 returns : tie.Need-returns
-unfolding undo back line value pairScale
+unfolding undoBy back lineBy valueBy pairScale
 returns c7 =
     let c6 = c7 .before in
     let c5 = c6 .before in

@@ -1,7 +1,7 @@
 -- The lines of Figure 4.9 in turn, each by what its calls ensure.
 use mir.Syntax.{w32}
 use mir.ValLaws.{toZ-ofZ}
-use Rattle.lifting.specs.Program.{run, line, value}
+use Rattle.lifting.specs.Program.{run, line, value, lineBy, runBy, valueBy}
 use Rattle.lifting.proofs.Bits.{again, again-shr}
 use borrow.Author.Needs.{needs}
 use Rattle.figures.specs.Figures.{rotation}
@@ -9,7 +9,7 @@ use Rattle.overlap_operators.proofs.rotation.Statement.{statement}
 use Rattle.overlap_operators.proofs.rotation.Tie as tie
 
 returns : tie.Need-returns
-unfolding run line value rotation
+unfolding runBy lineBy valueBy rotation
 returns c4 =
     let c3 = c4 .before in
     let c2 = c3 .before in

@@ -1,7 +1,7 @@
 -- The lines of Figure 4.10 in turn, each by what its calls ensure.
 use mir.Syntax.{w32}
 use mir.ValLaws.{toZ-ofZ}
-use Rattle.lifting.specs.Program.{run, line, value}
+use Rattle.lifting.specs.Program.{run, line, value, lineBy, runBy, valueBy}
 use Rattle.lifting.proofs.Bits.{again, again-shr}
 use borrow.Author.Needs.{needs}
 use Rattle.figures.specs.Figures.{scale}
@@ -9,7 +9,7 @@ use Rattle.overlap_operators.proofs.scale.Statement.{statement}
 use Rattle.overlap_operators.proofs.scale.Tie as tie
 
 returns : tie.Need-returns
-unfolding run line value scale
+unfolding runBy lineBy valueBy scale
 returns c7 =
     let c6 = c7 .before in
     let c5 = c6 .before in

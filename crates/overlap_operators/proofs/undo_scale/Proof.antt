@@ -1,7 +1,7 @@
 -- The lines of Figure 4.10 from the last to the first, each by what its calls ensure.
 use mir.Syntax.{w32}
 use mir.ValLaws.{toZ-ofZ}
-use Rattle.lifting.specs.Program.{undo, back, line, value}
+use Rattle.lifting.specs.Program.{undo, back, line, value, lineBy, undoBy, valueBy}
 use Rattle.lifting.proofs.Bits.{again, again-shr}
 use borrow.Author.Needs.{needs}
 use Rattle.figures.specs.Figures.{scale}
@@ -9,7 +9,7 @@ use Rattle.overlap_operators.proofs.undo_scale.Statement.{statement}
 use Rattle.overlap_operators.proofs.undo_scale.Tie as tie
 
 returns : tie.Need-returns
-unfolding undo back line value scale
+unfolding undoBy back lineBy valueBy scale
 returns c7 =
     let c6 = c7 .before in
     let c5 = c6 .before in

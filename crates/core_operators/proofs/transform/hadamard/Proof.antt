@@ -2,7 +2,7 @@
 use mathlib.Core.Path.{ap}
 use mir.Syntax.{w32}
 use mir.ValLaws.{toZ-ofZ}
-use Rattle.lifting.specs.Program.{run, line, value}
+use Rattle.lifting.specs.Program.{run, line, value, lineBy, runBy, valueBy}
 use Rattle.lifting.proofs.Bits.{again, again-shr}
 use borrow.Author.Needs.{needs}
 use Rattle.figures.specs.Figures.{hadamard}
@@ -12,7 +12,7 @@ use Rattle.core_operators.proofs.transform.hadamard.Statement.{statemen
 use Rattle.core_operators.proofs.transform.hadamard.Tie as tie
 
 returns : tie.Need-returns
-unfolding run line value hadamard
+unfolding runBy lineBy valueBy hadamard
 returns c8 =
     let c7 = c8 .before in
     let c6 = c7 .before in

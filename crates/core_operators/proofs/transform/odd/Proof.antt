@@ -1,6 +1,6 @@
 -- The lines of Figure 4.5 in turn, each by what its calls ensure.
 use mathlib.Core.Path.{ap}
-use Rattle.lifting.specs.Program.{run, line, value}
+use Rattle.lifting.specs.Program.{run, line, value, lineBy, runBy, valueBy}
 use Rattle.lifting.proofs.Bits.{again, again-shr}
 use borrow.Author.Needs.{needs}
 use Rattle.figures.specs.Figures.{odd}
@@ -9,7 +9,7 @@ use Rattle.core_operators.proofs.transform.odd.Statement.{statement}
 use Rattle.core_operators.proofs.transform.odd.Tie as tie
 
 returns : tie.Need-returns
-unfolding run line value odd
+unfolding runBy lineBy valueBy odd
 returns c20 =
     let c19 = c20 .before in
     let c18 = c19 .before in

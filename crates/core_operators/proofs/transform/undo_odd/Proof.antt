@@ -1,6 +1,6 @@
 -- The lines of Figure 4.5 from the last to the first, each by what its calls ensure.
 use mathlib.Core.Path.{ap}
-use Rattle.lifting.specs.Program.{undo, back, line, value}
+use Rattle.lifting.specs.Program.{undo, back, line, value, lineBy, undoBy, valueBy}
 use Rattle.lifting.proofs.Bits.{again, again-shr}
 use borrow.Author.Needs.{needs}
 use Rattle.figures.specs.Figures.{odd}
@@ -9,7 +9,7 @@ use Rattle.core_operators.proofs.transform.undo_odd.Statement.{statemen
 use Rattle.core_operators.proofs.transform.undo_odd.Tie as tie
 
 returns : tie.Need-returns
-unfolding undo back line value odd
+unfolding undoBy back lineBy valueBy odd
 returns c20 =
     let c19 = c20 .before in
     let c18 = c19 .before in
