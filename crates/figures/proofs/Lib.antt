@@ -1,3 +1,5 @@
 pub mod Bench
 pub mod Figures
 pub mod Parts
+pub mod Growth
+pub mod WrapBench

@@ -8,3 +8,10 @@ pub mod Between
 pub mod Locality
 pub mod Uses
 pub mod Values
+pub mod NoWrap
+pub mod Turned
+pub mod AnyUse
+pub mod Apart
+pub mod IntLaws
+pub mod Forms
+pub mod Calm

@@ -45,7 +45,7 @@ fit-set (y ∷ v) (suc i) h f (suc j) = fit-set v i h (λ k. f (suc k)) j
 row-set : {n : ℕ} {v : List ℤ} (i : ℕ) {x : ℤ} → SFits w32 x → Row n v → Row n (set v i x)
 row-set {v} i {x} h r = record { len = length-set v i x ∙ r .len; fit = fit-set v i h (r .fit) }
 
-row-line : {n : ℕ} (l : Line) {v : List ℤ} → Row n v → Row n (line l v)
+pub row-line : {n : ℕ} (l : Line) {v : List ℤ} → Row n v → Row n (line l v)
 unfolding lineBy
 row-line (i += e) r = row-set i (wrap-fits _) r
 row-line (i -= e) r = row-set i (wrap-fits _) r
@@ -145,7 +145,7 @@ row-undo {n} (apply o s ps p) t r =
 
 -- ---- a line
 
-value-set : (n : ℕ) (e : Expr) (v : List ℤ) (i : ℕ) (x : ℤ) → T (without n i e) → value e (set v i x) ≡ value e v
+pub value-set : (n : ℕ) (e : Expr) (v : List ℤ) (i : ℕ) (x : ℤ) → T (without n i e) → value e (set v i x) ≡ value e v
 unfolding valueBy
 value-set n (var j) v i x t = getD-set-other v i j x (pos 0) (λ q. apart i j (and-yes (ltb j n) _ t .1) (sym q))
 value-set n (e ⊕ k) v i x t = rw (value-set n e v i x t)

@@ -1,12 +1,14 @@
 -- Tests at every number below n: where all are true, each of them is; and where those below some number are not, no more make them so. By induction on n.
-use Prim.Native.Nat.{ℕ, zero, suc, _≤_, _<_}
-use mathlib.Core.Path.{_≡_, refl, subst, sym}
-use mathlib.Core.Bool.{Bool, false, _&&_}
+-- The laws of `||`, by cases, and of `any`, by induction on n.
+use Prim.Native.Nat.{ℕ, zero, suc, _+_, _*_, _≤_, _<_}
+use mathlib.Core.Path.{_≡_, refl, subst, sym, _∙_, ap, ap₂}
+use mathlib.Core.Bool.{Bool, true, false, _&&_, _||_}
 use native.Mathlib.Omega.{arith}
 use native.Mathlib.Decide.{decLe}
+use native.Mathlib.Nat.{add-zero, add-suc, mul-zero, mul-suc, mul-comm}
 use lib.Dec.{T}
 use mir.Facts.{and-yes}
-use Rattle.lifting.specs.Tests.{all}
+use Rattle.lifting.specs.Tests.{all, any}
 
 pub all-at : (n : ℕ) (f : ℕ → Bool) → T (all n f) → (k : ℕ) → k < n → T (f k)
 all-at zero f t k h = absurd (omega arith)
@@ -23,3 +25,48 @@ all-fails (suc n) k f e h = case (decLe k n) (all-fails n k f e)
     case : Dec (k ≤ n) → (k ≤ n → all n f ≡ false) → all n f && f n ≡ false
     case (yes g) below = rw (below g)
     case (no g) below = let z : k ≡ suc n = omega (arith, g) in subst (λ (i : ℕ). all i f ≡ false) z e
+
+-- ---- one test or another
+
+pub or-no : (a b : Bool) → a || b ≡ false → (a ≡ false) × (b ≡ false)
+or-no true b e = let z : _≡_ {A = ℕ} 0 1 = cc in absurd (omega arith)
+or-no false b e = (refl, e)
+
+pub no-or : {a b : Bool} → a ≡ false → b ≡ false → a || b ≡ false
+no-or {a} {b} h k = rw (h, k)
+
+pub or-assoc : (a b c : Bool) → (a || b) || c ≡ a || (b || c)
+or-assoc true b c = refl
+or-assoc false b c = refl
+
+pub or-false : (a : Bool) → a || false ≡ a
+or-false true = refl
+or-false false = refl
+
+pub or-comm : (a b : Bool) → a || b ≡ b || a
+or-comm true b = sym (or-true b)
+  where
+    or-true : (b : Bool) → b || true ≡ true
+    or-true true = refl
+    or-true false = refl
+or-comm false b = sym (or-false b)
+
+-- (a or b) or (c or d), the inner two exchanged
+pub or-middle : (a b c d : Bool) → (a || b) || (c || d) ≡ (a || c) || (b || d)
+or-middle true b c d = refl
+or-middle false b true d = or-comm b true
+or-middle false b false d = refl
+
+pub any-same : (n : ℕ) (f g : ℕ → Bool) → ((k : ℕ) → k < n → f k ≡ g k) → any n f ≡ any n g
+any-same zero f g h = refl
+any-same (suc n) f g h = ap₂ _||_ (any-same n f g (λ k l. h k (omega arith))) (h n (omega arith))
+
+-- the first m, and n more
+any-more : (m n : ℕ) (f : ℕ → Bool) → any (m + n) f ≡ any m f || any n (λ i. f (m + i))
+any-more m zero f = rw (add-zero m) (sym (or-false (any m f)))
+any-more m (suc n) f = rw (add-suc m n) (ap (λ b. b || f (m + n)) (any-more m n f) ∙ or-assoc (any m f) _ _)
+
+-- q rows of p
+pub any-rows : (p q : ℕ) (f : ℕ → Bool) → any q (λ j. any p (λ i. f (j * p + i))) ≡ any (p * q) f
+any-rows p zero f = rw (mul-zero p)
+any-rows p (suc q) f = rw (mul-suc p q, any-more (p * q) p f) (ap₂ _||_ (any-rows p q f) (ap (λ n. any p (λ i. f (n + i))) (mul-comm q p)))

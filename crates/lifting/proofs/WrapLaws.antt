@@ -14,7 +14,7 @@ low-lt : (z : ℤ) → low32 z < 4294967296
 low-lt (pos n) = omega arith
 low-lt (negsuc n) = omega arith
 
-by-cond : (c : Bool) {x y : ℤ} (P : ℤ → Type 0) → (T c → P x) → (T (not c) → P y) → P (cond c x y)
+pub by-cond : (c : Bool) {x y : ℤ} (P : ℤ → Type 0) → (T c → P x) → (T (not c) → P y) → P (cond c x y)
 by-cond true P f g = f tt
 by-cond false P f g = g tt
 

@@ -4,3 +4,5 @@ pub mod Row
 pub mod Valid
 pub mod OperatorUses
 pub mod Tests
+pub mod Wraps
+pub mod AnyUse

@@ -1,12 +1,12 @@
 -- The places of each use of a stage lie in one cell, a 4 x 4 square of the grid moved d up and left: d = 0 for the cores, 2 for the filters.
 -- So a set of places that goes by the cell has each use wholly inside it or wholly outside.
-use Prim.Native.Nat.{ℕ, _+_, _-_, _*_, _/_, _%_, _<_}
+use Prim.Native.Nat.{ℕ, _+_, _-_, _*_, _/_, _%_, _≤_, _<_}
 use mathlib.Core.Path.{_≡_, refl}
 use mathlib.Core.List.{List, [], _∷_, _++_}
 use native.Mathlib.Omega.{arith}
 use native.Mathlib.Nat.{add-mul}
 use lib.Arith.{digits-div, digits-mod}
-use Rattle.lifting.proofs.Between.{All}
+use Rattle.lifting.proofs.Between.{All, all-map}
 use Rattle.picture.specs.Level.{cell, strip, square}
 
 -- the cell of row (or column) r
@@ -33,44 +33,72 @@ all-square P w i h k l m =
     let fourth = strip 1 (i + w + w + w) in
     all-append P (strip 1 i) (strip 1 (i + w) ++ third ++ fourth) h (all-append P (strip 1 (i + w)) (third ++ fourth) k (all-append P third fourth l m))
 
-module _ (d p a b : ℕ) where
-  pub in-cell : (r c : ℕ) {i : ℕ} → i ≡ cell p r c → c < 4 * p → zone d r ≡ a → zone d c ≡ b → InCell d p a b i
-  in-cell r c e h f g = record { row = rw (e, digits-div r h) f; column = rw (e, digits-mod r h) g }
+-- ---- places by their row and column: Q of both, at four places along a row, four down a column, and the places of a square
+
+abbrev pub row : ℕ → ℕ → ℕ
+row p i = i / (4 * p)
+
+abbrev pub column : ℕ → ℕ → ℕ
+column p i = i % (4 * p)
+
+module _ (p : ℕ) (Q : ℕ → ℕ → Type 0) where
+  abbrev pub On : ℕ → Type 0
+  On i = Q (row p i) (column p i)
+
+  on : (r c : ℕ) {i : ℕ} → i ≡ cell p r c → c < 4 * p → Q r c → On i
+  on r c e h k = rw (e, digits-div r h, digits-mod r h) k
 
   down : (r c i : ℕ) → i ≡ cell p r c → i + 4 * p ≡ cell p (r + 1) c
   down r c i e = rw (add-mul r 1 (4 * p)) (omega arith)
 
-  -- four places along a row, and four down a column, of which the first and the last lie in one cell
-  pub strip-across : (r c i : ℕ) → i ≡ cell p r c → c + 3 < 4 * p → zone d r ≡ a → zone d c ≡ b → zone d (c + 3) ≡ b → All (InCell d p a b) (strip 1 i)
-  strip-across r c i e h f g k =
-      all-strip (InCell d p a b) 1 i
-      (in-cell r c e (omega arith) f g)
-      (in-cell r (c + 1) (omega arith) (omega arith) f (omega arith))
-      (in-cell r (c + 2) (omega arith) (omega arith) f (omega arith))
-      (in-cell r (c + 3) (omega arith) h f k)
+  pub on-across : (r c i : ℕ) → i ≡ cell p r c → c + 3 < 4 * p → Q r c → Q r (c + 1) → Q r (c + 2) → Q r (c + 3) → All On (strip 1 i)
+  on-across r c i e h k l m n =
+      all-strip On 1 i (on r c e (omega arith) k) (on r (c + 1) (omega arith) (omega arith) l) (on r (c + 2) (omega arith) (omega arith) m) (on r (c + 3) (omega arith) h n)
 
-  pub strip-down : (r c i : ℕ) → i ≡ cell p r c → c < 4 * p → zone d r ≡ a → zone d (r + 3) ≡ a → zone d c ≡ b → All (InCell d p a b) (strip (4 * p) i)
-  strip-down r c i e h f g k =
+  pub on-down : (r c i : ℕ) → i ≡ cell p r c → c < 4 * p → Q r c → Q (r + 1) c → Q (r + 1 + 1) c → Q (r + 1 + 1 + 1) c → All On (strip (4 * p) i)
+  on-down r c i e h k l m n =
       let e1 = down r c i e in
       let e2 = down (r + 1) c (i + 4 * p) e1 in
       let e3 = down (r + 1 + 1) c (i + 4 * p + 4 * p) e2 in
-      all-strip (InCell d p a b) (4 * p) i
-      (in-cell r c e h f k)
-      (in-cell (r + 1) c e1 h (omega arith) k)
-      (in-cell (r + 1 + 1) c e2 h (omega arith) k)
-      (in-cell (r + 1 + 1 + 1) c e3 h (omega arith) k)
+      all-strip On (4 * p) i (on r c e h k) (on (r + 1) c e1 h l) (on (r + 1 + 1) c e2 h m) (on (r + 1 + 1 + 1) c e3 h n)
+
+  pub on-square : (r c i : ℕ) → i ≡ cell p r c → c + 3 < 4 * p → ((j k : ℕ) → r ≤ j → j < r + 4 → c ≤ k → k < c + 4 → Q j k) → All On (square (4 * p) i)
+  on-square r c i e h q =
+      let e1 = down r c i e in
+      let e2 = down (r + 1) c (i + 4 * p) e1 in
+      let e3 = down (r + 1 + 1) c (i + 4 * p + 4 * p) e2 in
+      all-square On (4 * p) i
+      (across r i e (omega arith) (omega arith))
+      (across (r + 1) (i + 4 * p) e1 (omega arith) (omega arith))
+      (across (r + 1 + 1) (i + 4 * p + 4 * p) e2 (omega arith) (omega arith))
+      (across (r + 1 + 1 + 1) (i + 4 * p + 4 * p + 4 * p) e3 (omega arith) (omega arith))
+    where
+      across : (j i : ℕ) → i ≡ cell p j c → r ≤ j → j < r + 4 → All On (strip 1 i)
+      across j i e l m =
+          on-across j c i e h (q j c l m (omega arith) (omega arith)) (q j (c + 1) l m (omega arith) (omega arith)) (q j (c + 2) l m (omega arith) (omega arith)) (q j (c + 3) l m (omega arith) (omega arith))
+
+-- ---- places of one cell
+
+module _ (d p a b : ℕ) where
+  abbrev Here : ℕ → ℕ → Type 0
+  Here r c = (zone d r ≡ a) × (zone d c ≡ b)
+
+  here : (i : ℕ) → On p Here i → InCell d p a b i
+  here i h = record { row = h .0; column = h .1 }
+
+  pub in-cell : (r c : ℕ) {i : ℕ} → i ≡ cell p r c → c < 4 * p → zone d r ≡ a → zone d c ≡ b → InCell d p a b i
+  in-cell r c {i} e h f g = here i (on p Here r c e h (f, g))
+
+  -- four places along a row, and four down a column, of which the first and the last lie in one cell
+  pub strip-across : (r c i : ℕ) → i ≡ cell p r c → c + 3 < 4 * p → zone d r ≡ a → zone d c ≡ b → zone d (c + 3) ≡ b → All (InCell d p a b) (strip 1 i)
+  strip-across r c i e h f g k = all-map (strip 1 i) here (on-across p Here r c i e h (f, g) (f, omega arith) (f, omega arith) (f, k))
+
+  pub strip-down : (r c i : ℕ) → i ≡ cell p r c → c < 4 * p → zone d r ≡ a → zone d (r + 3) ≡ a → zone d c ≡ b → All (InCell d p a b) (strip (4 * p) i)
+  strip-down r c i e h f g k = all-map (strip (4 * p) i) here (on-down p Here r c i e h (f, k) (omega arith, k) (omega arith, k) (omega arith, k))
 
   -- a square of which the first and the last place lie in one cell
   pub square-in-cell : (r c i : ℕ) → i ≡ cell p r c → c + 3 < 4 * p → zone d r ≡ a → zone d (r + 3) ≡ a → zone d c ≡ b → zone d (c + 3) ≡ b → All (InCell d p a b) (square (4 * p) i)
-  square-in-cell r c i e h f g k l =
-      let e1 = down r c i e in
-      let e2 = down (r + 1) c (i + 4 * p) e1 in
-      let e3 = down (r + 1 + 1) c (i + 4 * p + 4 * p) e2 in
-      all-square (InCell d p a b) (4 * p) i
-      (strip-across r c i e h f k l)
-      (strip-across (r + 1) c (i + 4 * p) e1 h (omega arith) k l)
-      (strip-across (r + 1 + 1) c (i + 4 * p + 4 * p) e2 h (omega arith) k l)
-      (strip-across (r + 1 + 1 + 1) c (i + 4 * p + 4 * p + 4 * p) e3 h (omega arith) k l)
+  square-in-cell r c i e h f g k l = all-map (square (4 * p) i) here (on-square p Here r c i e h (λ j m s t u w. (omega arith, omega arith)))
 
 -- ---- the uses of each stage
 

@@ -8,10 +8,13 @@ pub mod Levels
 pub mod OnePlanes
 pub mod Stages
 pub mod Cells
+pub mod Apart
 pub mod Part
 pub mod LevelPart
 pub mod Windows
 pub mod WholePictures
 pub mod Squares
 pub mod Alone
+pub mod Told
+pub mod NoWrap
 pub mod Sanity

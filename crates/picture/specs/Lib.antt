@@ -6,3 +6,4 @@ pub mod Transform
 pub mod Windows
 pub mod Claims
 pub mod Numbers
+pub mod Wraps
