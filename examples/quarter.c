@@ -39,8 +39,12 @@ static uint32_t show(const uint8_t *bytes, size_t len) {
 
     header = lapped_load(bytes, len, dc, dc_len, low, low_len, high, high_len);
     uint32_t number = header.number;
-    if (number == LAPPED_DONE)
-        number = lapped_quarter(header.mode, header.size, dc, dc_len, low, low_len, view, view_len);
+    if (number == LAPPED_DONE) {
+        const lapped_answer answer =
+            lapped_quarter(header.mode, header.size, dc, dc_len, low, low_len, view, view_len);
+        number = answer.number;
+        if (answer.wrapped) fprintf(stderr, "a sum wrapped: the file has wild numbers\n");
+    }
     if (number == LAPPED_DONE) print_rows(header.size, view);
     free(dc);
     return number;

@@ -21,13 +21,16 @@
 #ifndef LAPPED_H
 #define LAPPED_H
 
+#ifndef __cplusplus
+#include <stdbool.h>
+#endif
 #include <stddef.h>
 #include <stdint.h>
 
 #define LAPPED_VERSION_MAJOR 0
-#define LAPPED_VERSION_MINOR 1
+#define LAPPED_VERSION_MINOR 2
 #define LAPPED_VERSION_PATCH 0
-/* One number that grows, for #if: 100 is version 0.1.0. */
+/* One number that grows, for #if: 200 is version 0.2.0. */
 #define LAPPED_VERSION \
     (10000 * LAPPED_VERSION_MAJOR + 100 * LAPPED_VERSION_MINOR + LAPPED_VERSION_PATCH)
 
@@ -42,7 +45,7 @@ typedef enum {
     LAPPED_BOTH_LEVELS = 2   /* that one, and the level of the DC and low-pass planes */
 } lapped_mode;
 
-/* The answers. lapped_message, below, has them in words. */
+/* The numbers that calls answer. lapped_message, below, has them in words. */
 typedef enum {
     LAPPED_DONE = 0,
     LAPPED_REFUSED_MODE = 1,
@@ -60,7 +63,7 @@ typedef enum {
     LAPPED_REFUSED_TOO_MANY_MACROBLOCKS = 13, /* only the program `samples` answers this */
     LAPPED_REFUSED_STEP_INDEX = 14,
     LAPPED_REFUSED_PRODUCT = 15
-} lapped_answer;
+} lapped_number;
 
 /* The size of a picture, in macroblocks: 1 to 525 across and 1 to 413 down. */
 typedef struct {
@@ -78,6 +81,17 @@ typedef enum {
 typedef struct {
     uint32_t dc, low, high;
 } lapped_steps;
+
+/* What the transform answers: the number and, if it is 0, whether a sum wrapped; else false.
+ *
+ * Every sum, difference, negation and multiple of 3 in the lines of the transform's operators is
+ * reduced to 32 bits. A sum wrapped if and only if one of these reductions changed a number, each
+ * step taken on the numbers that the steps before it left. What wrapped is exact all the same:
+ * lapped_forward and lapped_inverse undo each other, and of one picture they tell the same. */
+typedef struct {
+    uint32_t number;
+    bool wrapped;
+} lapped_answer;
 
 /* What reading a plane file gives: the answer and, if it is 0, the mode and the size; else zeros. */
 typedef struct {
@@ -103,25 +117,27 @@ typedef struct {
 } lapped_work;
 
 /* From coefficient planes to samples. Checks 1, 2, 3, 4, 5, 6, 7. */
-uint32_t lapped_inverse(uint32_t mode, lapped_size size,
-                        const int32_t *dc, size_t dc_len,
-                        const int32_t *low, size_t low_len,
-                        const int32_t *high, size_t high_len,
-                        int32_t *samples, size_t samples_len);
+lapped_answer lapped_inverse(uint32_t mode, lapped_size size,
+                             const int32_t *dc, size_t dc_len,
+                             const int32_t *low, size_t low_len,
+                             const int32_t *high, size_t high_len,
+                             int32_t *samples, size_t samples_len);
 
-/* The quarter-size view, from the DC and low-pass planes alone. Checks 1, 2, 3, 4, 5, 8. */
-uint32_t lapped_quarter(uint32_t mode, lapped_size size,
-                        const int32_t *dc, size_t dc_len,
-                        const int32_t *low, size_t low_len,
-                        int32_t *view, size_t view_len);
+/* The quarter-size view, from the DC and low-pass planes alone. It is made by the first of the
+ * transform's two levels, and of that one it tells whether a sum wrapped.
+ * Checks 1, 2, 3, 4, 5, 8. */
+lapped_answer lapped_quarter(uint32_t mode, lapped_size size,
+                             const int32_t *dc, size_t dc_len,
+                             const int32_t *low, size_t low_len,
+                             int32_t *view, size_t view_len);
 
 /* From samples to coefficient planes; undoes lapped_inverse exactly, and is undone by it.
  * Checks 1, 2, 3, 7, 4, 5, 6. */
-uint32_t lapped_forward(uint32_t mode, lapped_size size,
-                        const int32_t *samples, size_t samples_len,
-                        int32_t *dc, size_t dc_len,
-                        int32_t *low, size_t low_len,
-                        int32_t *high, size_t high_len);
+lapped_answer lapped_forward(uint32_t mode, lapped_size size,
+                             const int32_t *samples, size_t samples_len,
+                             int32_t *dc, size_t dc_len,
+                             int32_t *low, size_t low_len,
+                             int32_t *high, size_t high_len);
 
 /* The work of a picture, from its mode and size alone. Checks 1, 2, 3. */
 lapped_work lapped_forecast(uint32_t mode, lapped_size size);
@@ -214,7 +230,7 @@ static inline size_t lapped_file_len(lapped_size size) {
     return 32 + 1024 * lapped_macroblocks(size);
 }
 
-/* An answer in words; never null. */
+/* The number of an answer in words; never null. */
 static inline const char *lapped_message(uint32_t number) {
     switch (number) {
     case LAPPED_DONE: return "done";

@@ -16,6 +16,7 @@ mod steps;
 mod stopwatch;
 mod temporary;
 mod windows;
+mod wraps;
 
 use clap::Parser;
 use failure::Outcome;

@@ -26,12 +26,42 @@ fn mode_size_and_extremes() {
             let expected = format!(
                 "{file}\n  mode       {mode} ({words})\n  \
                  size       3 × 2 macroblocks, 48 × 32 samples\n  bytes      6176\n  DC         -5 to 70000\n  low-pass   {} to 2147483647\n  \
-                 high-pass  -2147483648 to {}\n",
+                 high-pass  -2147483648 to {}\n  sums       {}\n",
                 least(&planes[1]),
                 most(&planes[2]),
+                sums(wraps_of_planes(mode as u32, size, &planes)),
             );
             assert_eq!(ran.text(), expected);
         }
+    }
+}
+
+fn sums(wraps: bool) -> &'static str {
+    if wraps {
+        "a sum wrapped"
+    } else {
+        "no sum wrapped"
+    }
+}
+
+/// By one number of the picture, in the last block of its last macroblock.
+#[test]
+fn a_sum_that_wraps() {
+    let folder = Folder::new("wrapping_info");
+    let size = Size::new(2, 2);
+    for mode in 0..=2 {
+        let told = [0, i32::MIN].map(|number| {
+            let mut planes = random_planes(&mut Random::new(21), size, Values::Small);
+            planes[2][240 * 4 - 8] = number;
+            let file = folder.write("planes", &file_of_planes(mode, size, &planes));
+            let ran = lapped(&["info", &file]);
+            ran.assert_done("info");
+            let wraps = wraps_of_planes(mode, size, &planes);
+            let line = format!("\n  sums       {}\n", sums(wraps));
+            assert!(ran.text().ends_with(&line), "{}", ran.text());
+            wraps
+        });
+        assert_eq!(told, [false, true], "mode {mode}");
     }
 }
 
@@ -49,6 +79,7 @@ fn the_largest_size() {
         "  bytes      222028832\n",
         "  DC         0 to 0\n",
         "  high-pass  0 to 1\n",
+        "  sums       no sum wrapped\n",
     ] {
         assert!(ran.text().contains(line), "{}", ran.text());
     }

@@ -13,6 +13,12 @@ fn write_samples(folder: &Folder, samples: &[i32]) -> (String, Vec<i32>) {
     (folder.write("planes", &file_of_samples(0, Size::new(1, 1), &samples)), samples)
 }
 
+/// Whether a sum wraps on the way to these samples, which is whether one wraps on the way back.
+fn wraps_of_samples(samples: &[i32]) -> bool {
+    let (mut dc, mut low, mut high) = ([0], [0; 15], [0; 240]);
+    reference::forward(0, Size::new(1, 1), samples, &mut dc, &mut low, &mut high).unwrap()
+}
+
 /// The grey of a sample to the nearest, in the arithmetic of doubles, which is exact enough for 32
 /// bits.
 fn grey(sample: i32, low: i32, high: i32, white: f64) -> i32 {
@@ -20,7 +26,8 @@ fn grey(sample: i32, low: i32, high: i32, white: f64) -> i32 {
     (above * white / (f64::from(high) - f64::from(low)) + 0.5).floor() as i32
 }
 
-/// Exports with these options and compares; says on standard error how many were clipped.
+/// Exports with these options and compares; says on standard error how many were clipped, and before
+/// that whether a sum wrapped.
 fn assert_shown(
     folder: &Folder,
     samples: &[i32],
@@ -33,12 +40,12 @@ fn assert_shown(
     let white = f64::from((1 << bits) - 1);
     let expected: Vec<i32> = samples.iter().map(|&s| grey(s, low, high, white)).collect();
     let clipped = samples.iter().filter(|&&sample| sample < low || sample > high).count();
-    let note = match clipped {
-        0 => String::new(),
-        _ => format!(
+    let mut note = note_of_wraps(&file, wraps_of_samples(&samples));
+    if clipped > 0 {
+        note += &format!(
             "lapped: {file}: {clipped} of 256 samples clipped, being outside {low}:{high}\n"
-        ),
-    };
+        );
+    }
     for format in ["png", "pgm"] {
         let name = format!("out.{format}");
         let ran = lapped(&[&["export", &file, "-o", &folder.path(&name)], options].concat());

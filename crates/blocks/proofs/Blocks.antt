@@ -1,17 +1,17 @@
--- Blocks and the programs on them. A number of a block is the number at its place in the row of sixteen; and a program is
--- gone through use by use, by what each use's function ensures, with the concrete row of numbers that the use leaves.
+-- Blocks: a number of a block is the number at its place in the row of sixteen. And what is told of the four fours of a block, use by use.
 use Prim.Native.Nat.{ℕ, zero, suc, _/_, _%_, _<_}
 use mathlib.Core.Path.{_≡_, refl, _∙_, ap}
-use mathlib.Core.List.{List, [], _∷_}
+use mathlib.Core.Bool.{Bool, false, _||_, _&&_, and-or-distrib-left}
+use mathlib.Core.List.{List, []}
 use native.Mathlib.Omega.{arith}
 use lib.ListN.{getD}
 use lib.IntN.{ℤ, pos}
-use lib.Signed.{mag}
-use Rattle.lifting.specs.Program.{Program, Operator, end, apply, at, get, put, run, undo, runBy, undoBy}
-use Rattle.lifting.proofs.Bits.{back}
+use Rattle.lifting.specs.Program.{at}
+use Rattle.lifting.proofs.Tests.{or-swap}
 use Rattle.figures.specs.Block.{flat, list}
 use Rattle.figures.specs.declared.Four.{Four}
 use Rattle.blocks.specs.declared.Quads.{Quads}
+use Rattle.blocks.specs.Quads.{onSome}
 use Rattle.figures.proofs.Parts.{keptFour}
 
 -- ---- the numbers of a block
@@ -48,40 +48,15 @@ keptQuads f = record { p = keptFour (f .p); q = keptFour (f .q); r = keptFour (f
 pub quads : (f : Quads) → keptFour (f .p) ≡ f .p → keptFour (f .q) ≡ f .q → keptFour (f .r) ≡ f .r → keptFour (f .s) ≡ f .s → keptQuads f ≡ f
 quads f p q r s = rw (p, q, r, s)
 
--- ---- a program from its first use to its last
+-- ---- what is told of four uses
 
--- p leaves r of v
-pub record Runs (p : Program) (v r : List ℤ) : Type 0 where
-  pub gives : r ≡ run p v
+pub ask-four : (t a b c d : Bool) {p q r s : Bool} → p ≡ t && a → q ≡ t && b → r ≡ t && c → s ≡ t && d → p || q || r || s ≡ t && (a || b || c || d)
+ask-four t a b c d e f g h = rw (e, f, g, h, and-or-distrib-left t (a || b || c) d, and-or-distrib-left t (a || b) c, and-or-distrib-left t a b)
 
-pub ended : {v : List ℤ} → Runs end v v
-unfolding runBy
-ended = record { gives = refl }
+last-first : (p q r s : Bool) → p || q || r || s ≡ s || r || q || p
+last-first p q r s =
+    or-swap (p || q) r s ∙ ap (λ x. x || r) (or-swap p q s ∙ ap (λ x. x || q) (or-swap false p s)) ∙ or-swap (s || p) q r ∙ ap (λ x. x || q) (or-swap s p r) ∙ or-swap (s || r) p q
 
-infixr 30 _▹_
-pub _▹_ : {o : Operator} {s : Program} {ps : List ℕ} {p : Program} {v u r : List ℤ} → u ≡ run s (get ps v) → Runs p (put ps u v) r → Runs (apply o s ps p) v r
-unfolding runBy
-_▹_ {ps} {p} {v} e f = record { gives = f .gives ∙ ap (λ x. run p (put ps x v)) e }
-
--- the program, on numbers that were read
-pub ran : (p : Program) (v : List ℤ) {w r : List ℤ} → w ≡ v → Runs p w r → r ≡ run p v
-ran p v e f = f .gives ∙ ap (run p) e
-
--- ---- a program undone from its last use to its first
-
--- p undone leaves r of v
-pub record Undoes (p : Program) (v r : List ℤ) : Type 0 where
-  pub gives : r ≡ undo p v
-
--- from numbers that were read
-pub unended : {v r : List ℤ} → r ≡ v → Undoes end v r
-unfolding undoBy
-unended e = record { gives = e }
-
-infixl 30 _◃_
-pub _◃_ : {o : Operator} {s : Program} {ps : List ℕ} {p : Program} {v u r : List ℤ} → Undoes p v r → u ≡ undo s (get ps r) → Undoes (apply o s ps p) v (put ps u r)
-unfolding undoBy
-e ◃ f = record { gives = rw (← e .gives, ← f) }
-
-pub undone : (p : Program) (v : List ℤ) {r : List ℤ} → Undoes p v r → r ≡ undo p v
-undone p v f = f .gives
+-- the last use first, as they are undone
+pub some-back : (f g h k : List ℤ → Bool) (v : Quads) → onSome f g h k v ≡ k (list (v .s)) || h (list (v .r)) || g (list (v .q)) || f (list (v .p))
+some-back f g h k v = last-first (f (list (v .p))) (g (list (v .q))) (h (list (v .r))) (k (list (v .s)))

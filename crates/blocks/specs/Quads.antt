@@ -1,5 +1,6 @@
 -- The sixteen numbers of a block as four fours, in the ways in which the stages of Figures 4.8 and 4.14 take them.
 use mathlib.Core.Path.{_≡_}
+use mathlib.Core.Bool.{Bool, _||_}
 use mathlib.Core.List.{List, [], _∷_}
 use lib.IntN.{ℤ}
 use Rattle.figures.specs.Block.{list}
@@ -30,3 +31,10 @@ pub record OnFours (f g h k : List ℤ → List ℤ) (v w : Quads) : Type 0 wher
 
 abbrev pub OnEach : (List ℤ → List ℤ) → Quads → Quads → Type 0
 OnEach f v w = OnFours f f f f v w
+
+-- f holds of the first four, or g of the second, or h of the third, or k of the last
+abbrev pub onSome : (f g h k : List ℤ → Bool) → Quads → Bool
+onSome f g h k v = f (list (v .p)) || g (list (v .q)) || h (list (v .r)) || k (list (v .s))
+
+abbrev pub onAny : (List ℤ → Bool) → Quads → Bool
+onAny f v = onSome f f f f v

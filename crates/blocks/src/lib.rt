@@ -16,6 +16,12 @@ pub struct Quads {
     pub s: Four,
 }
 
+// The same, with whether a reduction changed a number
+pub struct ToldQuads {
+    pub quads: Quads,
+    pub wrapped: bool,
+}
+
 // Coefficient k of a block
 fn at(b: [[i32; 4]; 4], k: usize) -> i32
     requires { ⌜ k < 16 ⌝ }

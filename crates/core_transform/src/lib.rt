@@ -4,11 +4,14 @@ mod tables; // tables.rt: the reorder that begins Figure 4.8, and its undoing
 
 ghost use mathlib.Core.Path.{_≡_};
 ghost use Rattle.lifting.specs.Program.{run, undo, get};
+ghost use Rattle.lifting.specs.Wraps.{wraps, undoWraps};
 ghost use Rattle.figures.specs.Block.{flat};
 ghost use Rattle.figures.specs.Figures.{core as coreLines, forwardReorder, inverseReorder};
 ghost use Rattle.blocks.specs.Quads.{quartered as quarteredList};
 use crate::core_stages::quarter_stage;
+use crate::core_stages::quarter_stage_told;
 use crate::core_stages::undo_quarter_stage;
+use crate::core_stages::undo_quarter_stage_told;
 use crate::tables::FORWARD_REORDER;
 use crate::tables::INVERSE_REORDER;
 use blocks::Quads;
@@ -19,6 +22,7 @@ use blocks::quarters;
 use blocks::row;
 use blocks::split;
 use blocks::stage::hadamards;
+use blocks::stage::hadamards_told;
 
 // The quarters of a block that is reordered as Figure 4.8 begins: place i takes the coefficient at the forward table's entry i.
 fn reorder(b: [[i32; 4]; 4]) -> Quads
@@ -58,4 +62,22 @@ pub fn undo_core(b: [[i32; 4]; 4]) -> [[i32; 4]; 4]
 {
     let first = mirrored(hadamards(split(b)));
     undo_reorder(quartered(undo_quarter_stage(quarters(first))))
+}
+
+// Whether a reduction changes a number in Figure 4.8
+pub fn core_wraps(b: [[i32; 4]; 4]) -> bool
+    ensures { λ r. ⌜ r ≡ wraps coreLines (flat b) ⌝ }
+{
+    let first = quarter_stage_told(true, reorder(b));
+    let last = hadamards_told(true, split(quartered(first.quads)));
+    first.wrapped | last.wrapped
+}
+
+// And in Figure 4.8 undone
+pub fn undo_core_wraps(b: [[i32; 4]; 4]) -> bool
+    ensures { λ r. ⌜ r ≡ undoWraps coreLines (flat b) ⌝ }
+{
+    let first = hadamards_told(true, split(b));
+    let last = undo_quarter_stage_told(true, quarters(mirrored(first.quads)));
+    first.wrapped | last.wrapped
 }

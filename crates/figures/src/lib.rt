@@ -10,3 +10,14 @@ pub struct Four {
     pub c: i32,
     pub d: i32,
 }
+
+// The same, with whether a reduction changed a number
+pub struct ToldPair {
+    pub pair: Pair,
+    pub wrapped: bool,
+}
+
+pub struct ToldFour {
+    pub four: Four,
+    pub wrapped: bool,
+}

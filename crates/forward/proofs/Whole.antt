@@ -1,15 +1,18 @@
--- The planes after both levels: each is read off the grid that it makes up.
+-- The planes after both levels: each is read off the grid that it makes up; and whether one of the two levels wraps.
 use Prim.Native.Nat.{ℕ, _*_}
 use mathlib.Core.Path.{_≡_, sym, _∙_, ap}
+use mathlib.Core.Bool.{Bool, _||_}
 use mathlib.Core.List.{List}
 use lib.ListN.{length}
 use lib.IntN.{ℤ}
 use Rattle.lifting.specs.Program.{undo}
+use Rattle.lifting.specs.Wraps.{undoWraps}
 use Rattle.picture.specs.declared.mode.Mode.{Mode}
 use Rattle.picture.specs.declared.size.Size.{Size}
 use Rattle.picture.specs.Sizes.{Sized, macroblocks}
 use Rattle.picture.specs.Planes.{Lengths, planes, grid, firstGrid, secondGrid, viewOf}
 use Rattle.picture.specs.Transform.{levelOne, levelTwo, secondUndone, firstUndone, forwardBy}
+use Rattle.picture.specs.Wraps.{forwardWrapsBy}
 use Rattle.picture.proofs.Table.{length-table}
 use Rattle.picture.proofs.Grid.{dc-of-first, low-of-first, view-of-second, high-of-second}
 
@@ -31,9 +34,17 @@ module _ (mode : Mode) (size : Size) (sized : Sized size) (samples a l h a′ l�
     unfolding secondUndone
     second-is = second
 
+    -- what level two leaves for level one
+    view-is : firstGrid W H a l ≡ viewOf W H (secondUndone mode size samples)
+    view-is = sym (view-of-second (sized .wide) H (firstGrid W H a l) h length-first) ∙ ap (viewOf W H) second-is
+
     first-is : firstGrid W H a′ l′ ≡ firstUndone mode size samples
     unfolding firstUndone
-    first-is = first ∙ ap (undo (levelOne mode size)) (sym (view-of-second (sized .wide) H (firstGrid W H a l) h length-first) ∙ ap (viewOf W H) second-is)
+    first-is = first ∙ ap (undo (levelOne mode size)) view-is
+
+    pub wraps-are : {x y : Bool} → x ≡ undoWraps (levelTwo mode size) samples → y ≡ undoWraps (levelOne mode size) (firstGrid W H a l) → x || y ≡ forwardWrapsBy mode size samples
+    unfolding forwardWrapsBy
+    wraps-are e f = rw (e, f, view-is)
 
     pub planes-are : planes a′ l′ h ≡ forwardBy mode size samples
     unfolding forwardBy

@@ -14,7 +14,7 @@ use Rattle.picture.specs.declared.size.Size.{Size}
 use Rattle.picture.specs.Level.{fourFilterAt, squareFilters, rowFilters, columnFilters, alongEdges, filters}
 use Rattle.picture.specs.Sizes.{Sized}
 use Rattle.picture.proofs.CheckLaws.{few-macroblocks}
-use Rattle.grid.proofs.Rows.{row-above}
+use Rattle.grid.proofs.Rows.{row-inside, row-above}
 use Rattle.forward_one_grid.specs.Held.{Held}
 use Rattle.forward_one_grid.proofs.Lines.{row-line, column-line}
 use Rattle.forward_one_filters.specs.Edges.{filterAcross, line, edges}
@@ -28,6 +28,10 @@ beside-few j i n h k l e = omega (arith, digits-lt k l, few-macroblocks (h .size
 -- one use back on a line
 pub step-back : (from pace i : ℕ) {t : ℕ} → 0 < i → t ≡ from + pace * i → (pace ≤ t) × (t - pace ≡ from + pace * (i - 1))
 step-back from pace i h e = let up = row-above i pace h in (omega arith, omega arith)
+
+-- one use on, of n
+pub step-on : (from pace i n : ℕ) {t : ℕ} → i < n → t ≡ from + pace * i → (t + pace ≤ from + pace * n) × (t + pace ≡ from + pace * (i + 1))
+step-on from pace i n h e = let up = row-inside i n pace h in (omega arith, omega arith)
 
 -- the bottom row of squares
 pub bottom-row : {size : Size} {dc low : List ℤ} → Held size dc low → (size .width .0 ≤ length dc) × (length dc - size .width .0 ≡ (size .height .0 - 1) * size .width .0)
@@ -66,14 +70,14 @@ module _ (size : Size) (sized : Sized size) where
   column-is from l i c column e k f m g =
       rw (f, g) (each-same (H - 1) _ _ (λ j h. ap (λ ps. apply FourFilter fourFilter ps end) (column-line size (from + W * j) (from + W * j + W) j i c m (omega arith) refl k)))
 
-  rows-are : (bottom : ℕ) → bottom ≡ (H - 1) * W → edges size bottom 1 4 1 (W - 1) ≡ alongEdges H (rowFilters W)
+  pub rows-are : (bottom : ℕ) → bottom ≡ (H - 1) * W → edges size bottom 1 4 1 (W - 1) ≡ alongEdges H (rowFilters W)
   unfolding edges
   rows-are bottom e =
       let h = sized .tall in
       four-same (row-is 0 0 0 0 0 (omega arith) refl refl) (row-is 0 4 0 1 1 (omega arith) refl refl)
       (row-is bottom (2 * 4) (H - 1) 2 (4 * H - 2) e refl (omega arith)) (row-is bottom (3 * 4) (H - 1) 3 (4 * H - 1) e refl (omega arith))
 
-  columns-are : edges size (W - 1) W 1 4 (H - 1) ≡ alongEdges W (columnFilters W H)
+  pub columns-are : edges size (W - 1) W 1 4 (H - 1) ≡ alongEdges W (columnFilters W H)
   unfolding edges
   columns-are =
       let h = sized .wide in

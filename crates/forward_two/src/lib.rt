@@ -4,11 +4,14 @@
 ghost use mathlib.Core.Path.{_≡_};
 ghost use Prim.Native.Nat.{ℕ, _+_, _*_, _/_, _%_, _<_, _≤_};
 ghost use mathlib.Core.Logic.{_⊎_};
+ghost use mathlib.Core.Bool.{false};
 ghost use lib.ListN.{length};
 ghost use Rattle.lifting.specs.Program.{undo, at as number};
+ghost use Rattle.lifting.specs.Wraps.{Within};
 ghost use Rattle.picture.specs.Level.{cell, level, cores as coresOf};
 ghost use Rattle.picture.specs.Planes.{firstGrid, secondGrid};
 ghost use Rattle.picture.specs.Sizes.{macroblocks, Sized};
+ghost use Rattle.large_numbers.specs.Small.{Small};
 ghost use Rattle.forward_two_cores.specs.Blocks.{blockOf, undoneIn, Among};
 ghost use Rattle.forward_two_edges.specs.Unfiltered.{unfiltered};
 ghost use Rattle.forward_two_edges.specs.Strip.{Holds, Kept, Given, Rows};
@@ -20,6 +23,7 @@ use forward_two_edges::edge_rows;
 use forward_two_parked::fetch;
 use forward_two_parked::park;
 use forward_two_windows::windows;
+use large_numbers::rows_large;
 use picture::size::Size;
 
 // The two columns after the last macroblock of the group before become the first two.
@@ -200,7 +204,7 @@ fn group(
     first: usize,
     down: usize,
     strip: &mut [i32],
-)
+) -> bool
     requires { ⌜ Given size r c (now samples) (now strip) ⌝ }
     requires { ⌜ (at ≡ r * (256 * size .width .0) + 16 * c) × (m ≡ r * size .width .0 + c) ⌝ }
     requires { ⌜ Planes size (now dc) (now low) (now high) ⌝ }
@@ -211,11 +215,15 @@ fn group(
     ensures { λ u. ⌜ Through size (now (samples .entry)) (r * size .width .0 + c + n) (blockOf (now (dc .exit)) (now (low .exit)) (now (high .exit))) ⌝ }
     ensures { λ u. ⌜ (n ≡ 4 → c + n < size .width .0 → Carried size (now (samples .entry)) r (c + n) first (now (strip .exit))) ⌝ }
     ensures { λ u. ⌜ length (now (strip .exit)) ≡ 1296 ⌝ }
+    ensures { λ u. ⌜ (u ≡ false → (y : ℕ) → y < 16 → Small (now (samples .entry)) (at + y * (16 * size .width .0)) (at + y * (16 * size .width .0) + 16 * n)) ⌝ }
 {
+    let across = size.width.0 as usize;
+    let large = rows_large(samples, 16 * across, at, 16 * n);
     fill(size, r, c, n, samples, at, first, down, strip);
     upper(size, r, c, n, samples, dc, low, high, m, first, strip);
     cores(strip, dc, low, high, m, n);
     lower(size, r, c, n, dc, low, high, m, down, strip);
+    large
 }
 
 // How many of those that are left go together.
@@ -243,7 +251,7 @@ fn undo_row(
     first: usize,
     down: usize,
     strip: &mut [i32],
-)
+) -> bool
     requires { ⌜ Given size r 0 (now samples) (now strip) ⌝ }
     requires { ⌜ (at ≡ r * (256 * size .width .0)) × (m ≡ r * size .width .0) ⌝ }
     requires { ⌜ Planes size (now dc) (now low) (now high) ⌝ }
@@ -251,13 +259,15 @@ fn undo_row(
     requires { ⌜ Through size (now samples) (r * size .width .0) (blockOf (now dc) (now low) (now high)) ⌝ }
     ensures { λ u. ⌜ Through size (now (samples .entry)) (r * size .width .0 + size .width .0) (blockOf (now (dc .exit)) (now (low .exit)) (now (high .exit))) ⌝ }
     ensures { λ u. ⌜ length (now (strip .exit)) ≡ 1296 ⌝ }
+    ensures { λ u. ⌜ (u ≡ false → Small (now (samples .entry)) at (at + 256 * size .width .0)) ⌝ }
 {
     let across = size.width.0;
     let width = across as usize;
+    let mut large = false;
     let mut c = 0;
     while c < width {
         let n = together(width - c);
-        group(
+        let found = group(
             size,
             r,
             c,
@@ -272,8 +282,10 @@ fn undo_row(
             down,
             strip,
         );
+        large = large | found;
         c += n;
     }
+    large
 }
 
 // The first row of the strip that no row of macroblocks above has made.
@@ -298,21 +310,29 @@ fn windows_down(r: usize, height: usize) -> usize
 }
 
 // A level with filters: the strip goes over the picture.
-fn undo_filtered(size: Size, samples: &[i32], dc: &mut [i32], low: &mut [i32], high: &mut [i32])
+fn undo_filtered(
+    size: Size,
+    samples: &[i32],
+    dc: &mut [i32],
+    low: &mut [i32],
+    high: &mut [i32],
+) -> bool
     requires { ⌜ Sized size × (length (now samples) ≡ 256 * macroblocks size) ⌝ }
     requires { ⌜ Planes size (now dc) (now low) (now high) ⌝ }
     ensures { λ u. ⌜ secondGrid (size .width .0) (size .height .0) (firstGrid (size .width .0) (size .height .0) (now (dc .exit)) (now (low .exit))) (now (high .exit)) ≡ undo (coresOf (4 * size .width .0) (4 * size .height .0)) (unfiltered size (now (samples .entry))) ⌝ }
+    ensures { λ r. ⌜ (r ≡ false → Within 33554432 (now (samples .entry))) ⌝ }
 {
     let across = size.width.0 as usize;
     let height = size.height.0 as usize;
     let w = 16 * across;
     let mut strip = [0i32; 1296];
+    let mut large = false;
     let mut at = 0;
     let mut m = 0;
     for r in 0..height {
         let first = first_row(r);
         let rows = windows_down(r, height);
-        undo_row(
+        let found = undo_row(
             size,
             r,
             samples,
@@ -325,12 +345,14 @@ fn undo_filtered(size: Size, samples: &[i32], dc: &mut [i32], low: &mut [i32], h
             rows,
             &mut strip,
         );
+        large = large | found;
         at += 16 * w;
         m += across;
     }
+    large
 }
 
-// Level two undone, its filters, where the mode has them, and its cores.
+// Level two undone, its filters, where the mode has them, and its cores; and whether a sample is large.
 pub fn undo_level_two(
     filtered: bool,
     size: Size,
@@ -338,16 +360,16 @@ pub fn undo_level_two(
     dc: &mut [i32],
     low: &mut [i32],
     high: &mut [i32],
-)
+) -> bool
     requires { ⌜ Sized size ⌝ }
     requires { ⌜ length (now samples) ≡ 256 * macroblocks size ⌝ }
     requires { ⌜ (length (now dc) ≡ macroblocks size) × (length (now low) ≡ 15 * macroblocks size) × (length (now high) ≡ 240 * macroblocks size) ⌝ }
     ensures { λ u. ⌜ secondGrid (size .width .0) (size .height .0) (firstGrid (size .width .0) (size .height .0) (now (dc .exit)) (now (low .exit))) (now (high .exit)) ≡
         undo (level filtered (4 * size .width .0) (4 * size .height .0)) (now (samples .entry)) ⌝ }
+    ensures { λ r. ⌜ (r ≡ false → Within 33554432 (now (samples .entry))) ⌝ }
 {
     if filtered {
-        undo_filtered(size, samples, dc, low, high);
-        return;
+        return undo_filtered(size, samples, dc, low, high);
     }
-    undo_cores(size, samples, dc, low, high);
+    undo_cores(size, samples, dc, low, high)
 }

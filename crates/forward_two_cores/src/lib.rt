@@ -1,16 +1,20 @@
 // The core transforms of level two undone from a grid into the three planes, four blocks at a time: a macroblock, and all of a picture from its samples.
 ghost use mathlib.Core.Path.{_≡_};
+ghost use mathlib.Core.Bool.{false};
 ghost use Prim.Native.Nat.{_+_, _*_, _/_, _%_, _<_, _≤_};
 ghost use lib.ListN.{length};
 ghost use Rattle.lifting.specs.Program.{undo};
+ghost use Rattle.lifting.specs.Wraps.{Within};
 ghost use Rattle.figures.specs.Figures.{core};
 ghost use Rattle.picture.specs.Level.{cores};
 ghost use Rattle.picture.specs.Planes.{firstGrid, secondGrid};
 ghost use Rattle.picture.specs.Sizes.{macroblocks, Sized};
+ghost use Rattle.large_numbers.specs.Small.{Small};
 ghost use Rattle.forward_kernel.specs.Placed.{blockIn};
 ghost use Rattle.forward_two_cores.specs.Blocks.{blockOf, squareIn, undoneIn, Among, Replaced, Elsewhere};
 use forward_kernel::undo_four_cores;
 use grid::put_four;
+use large_numbers::rows_large;
 use picture::size::Size;
 
 // The coefficients 0 of macroblock m's blocks: its DC number and its low-pass numbers.
@@ -106,38 +110,53 @@ fn undo_row(
     low: &mut [i32],
     high: &mut [i32],
     m: usize,
-)
+) -> bool
     requires { ⌜ Sized size × (r < size .height .0) ⌝ }
     requires { ⌜ (at ≡ r * (256 * size .width .0)) × (m ≡ r * size .width .0) ⌝ }
     requires { ⌜ length (now samples) ≡ 256 * macroblocks size ⌝ }
     requires { ⌜ (length (now dc) ≡ macroblocks size) × (length (now low) ≡ 15 * macroblocks size) × (length (now high) ≡ 240 * macroblocks size) ⌝ }
     ensures { λ u. ⌜ Replaced (Among (r * size .width .0) (r * size .width .0 + size .width .0)) (λ t. undo core (squareIn (size .width .0) (now (samples .entry)) t))
         (blockOf (now (dc .entry)) (now (low .entry)) (now (high .entry))) (blockOf (now (dc .exit)) (now (low .exit)) (now (high .exit))) ⌝ }
+    ensures { λ o. ⌜ (o ≡ false → Small (now (samples .entry)) at (at + 256 * size .width .0)) ⌝ }
 {
     let across = size.width.0;
     let width = across as usize;
     let w = 16 * width;
+    let mut large = false;
     for c in 0..width {
+        let found = rows_large(samples, w, at + 16 * c, 16);
+        large = large | found;
         undo_macroblock_of(samples, w, at + 16 * c, dc, low, high, m + c);
     }
+    large
 }
 
-// All macroblocks of a picture, from its samples.
-pub fn undo_cores(size: Size, samples: &[i32], dc: &mut [i32], low: &mut [i32], high: &mut [i32])
+// All macroblocks of a picture, from its samples, and whether one of these is large.
+pub fn undo_cores(
+    size: Size,
+    samples: &[i32],
+    dc: &mut [i32],
+    low: &mut [i32],
+    high: &mut [i32],
+) -> bool
     requires { ⌜ Sized size ⌝ }
     requires { ⌜ length (now samples) ≡ 256 * macroblocks size ⌝ }
     requires { ⌜ (length (now dc) ≡ macroblocks size) × (length (now low) ≡ 15 * macroblocks size) × (length (now high) ≡ 240 * macroblocks size) ⌝ }
     ensures { λ u. ⌜ secondGrid (size .width .0) (size .height .0) (firstGrid (size .width .0) (size .height .0) (now (dc .exit)) (now (low .exit))) (now (high .exit)) ≡
         undo (cores (4 * size .width .0) (4 * size .height .0)) (now (samples .entry)) ⌝ }
+    ensures { λ r. ⌜ (r ≡ false → Within 33554432 (now (samples .entry))) ⌝ }
 {
     let across = size.width.0 as usize;
     let down = size.height.0 as usize;
     let w = 16 * across;
     let mut at = 0;
     let mut m = 0;
+    let mut large = false;
     for r in 0..down {
-        undo_row(size, r, samples, at, dc, low, high, m);
+        let found = undo_row(size, r, samples, at, dc, low, high, m);
+        large = large | found;
         at += 16 * w;
         m += across;
     }
+    large
 }

@@ -1,8 +1,10 @@
 // The C interface: one exported function for each operation, with the operation's own promises.
 ghost use mathlib.Core.Path.{_≡_};
+ghost use mathlib.Core.Bool.{false};
 ghost use Rattle.picture.specs.Planes.{planes};
 ghost use Rattle.picture.specs.Numbers.{settled, inverseNumber, forwardNumber, quarterNumber};
 ghost use Rattle.picture.specs.Transform.{inverse as samplesOf, forward as planesOf, quarter};
+ghost use Rattle.picture.specs.Wraps.{inverseWraps, forwardWraps, quarterWraps};
 ghost use Rattle.plane_file.specs.Numbers.{saveNumber};
 ghost use Rattle.plane_file.specs.Calls.{headerAnswer, loadAnswer, loaded, saved};
 ghost use Rattle.forecast.specs.Forecast.{forecastAnswer};
@@ -19,6 +21,7 @@ use forecast::forecast;
 use forward::forward;
 use inverse::inverse;
 use inverse::quarter_view;
+use picture::answer::Answer;
 use picture::size::Size;
 use plane_file::header::Header;
 use plane_file::header::read_header;
@@ -36,10 +39,11 @@ pub extern "C" fn lapped_inverse(
     low: &[i32],
     high: &[i32],
     samples: &mut [i32],
-) -> u32
-    ensures { λ r. ⌜ r ≡ inverseNumber mode size (planes (now (dc .entry)) (now (low .entry)) (now (high .entry))) (now (samples .entry)) ⌝ }
+) -> Answer
+    ensures { λ r. ⌜ r .number ≡ inverseNumber mode size (planes (now (dc .entry)) (now (low .entry)) (now (high .entry))) (now (samples .entry)) ⌝ }
+    ensures { λ r. ⌜ r .wrapped ≡ settled (r .number) (inverseWraps mode size (planes (now (dc .entry)) (now (low .entry)) (now (high .entry)))) false ⌝ }
     ensures { λ r. ⌜ now (samples .exit) ≡
-        settled r (samplesOf mode size (planes (now (dc .entry)) (now (low .entry)) (now (high .entry)))) (now (samples .entry)) ⌝ }
+        settled (r .number) (samplesOf mode size (planes (now (dc .entry)) (now (low .entry)) (now (high .entry)))) (now (samples .entry)) ⌝ }
 {
     inverse(mode, size, dc, low, high, samples)
 }
@@ -51,9 +55,10 @@ pub extern "C" fn lapped_quarter(
     dc: &[i32],
     low: &[i32],
     view: &mut [i32],
-) -> u32
-    ensures { λ r. ⌜ r ≡ quarterNumber mode size (now (dc .entry)) (now (low .entry)) (now (view .entry)) ⌝ }
-    ensures { λ r. ⌜ now (view .exit) ≡ settled r (quarter mode size (now (dc .entry)) (now (low .entry))) (now (view .entry)) ⌝ }
+) -> Answer
+    ensures { λ r. ⌜ r .number ≡ quarterNumber mode size (now (dc .entry)) (now (low .entry)) (now (view .entry)) ⌝ }
+    ensures { λ r. ⌜ r .wrapped ≡ settled (r .number) (quarterWraps mode size (now (dc .entry)) (now (low .entry))) false ⌝ }
+    ensures { λ r. ⌜ now (view .exit) ≡ settled (r .number) (quarter mode size (now (dc .entry)) (now (low .entry))) (now (view .entry)) ⌝ }
 {
     quarter_view(mode, size, dc, low, view)
 }
@@ -66,10 +71,11 @@ pub extern "C" fn lapped_forward(
     dc: &mut [i32],
     low: &mut [i32],
     high: &mut [i32],
-) -> u32
-    ensures { λ r. ⌜ r ≡ forwardNumber mode size (now (samples .entry)) (planes (now (dc .entry)) (now (low .entry)) (now (high .entry))) ⌝ }
+) -> Answer
+    ensures { λ r. ⌜ r .number ≡ forwardNumber mode size (now (samples .entry)) (planes (now (dc .entry)) (now (low .entry)) (now (high .entry))) ⌝ }
+    ensures { λ r. ⌜ r .wrapped ≡ settled (r .number) (forwardWraps mode size (now (samples .entry))) false ⌝ }
     ensures { λ r. ⌜ planes (now (dc .exit)) (now (low .exit)) (now (high .exit)) ≡
-        settled r (planesOf mode size (now (samples .entry))) (planes (now (dc .entry)) (now (low .entry)) (now (high .entry))) ⌝ }
+        settled (r .number) (planesOf mode size (now (samples .entry))) (planes (now (dc .entry)) (now (low .entry)) (now (high .entry))) ⌝ }
 {
     forward(mode, size, samples, dc, low, high)
 }

@@ -2,14 +2,13 @@
 -- holds of n programs that a key of the places tells apart: by induction on n. Such a family is the programs that wrap where one of their uses does on the row as it was.
 use Prim.Native.Nat.{ℕ, zero, suc, _<_}
 use mathlib.Core.Path.{_≡_, refl, sym, _∙_, ap, ap₂}
-use mathlib.Core.Bool.{Bool, _||_}
+use mathlib.Core.Bool.{Bool, _||_, or-comm}
 use mathlib.Core.List.{List, [], _∷_}
 use native.Mathlib.Omega.{arith}
 use lib.IntN.{ℤ}
 use Rattle.lifting.specs.Program.{Program, end, apply, Operator, at, get, put, run, undo, _then_, each, runBy, undoBy}
 use Rattle.lifting.specs.Wraps.{wraps, undoWraps}
 use Rattle.lifting.specs.AnyUse.{anyUse}
-use Rattle.lifting.proofs.Tests.{or-comm}
 use Rattle.lifting.proofs.Compose.{run-then, undo-then}
 use Rattle.lifting.proofs.Between.{All, all-map}
 use Rattle.lifting.proofs.Locality.{agree-refl, put-keeps}

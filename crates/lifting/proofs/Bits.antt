@@ -1,17 +1,17 @@
 -- Numbers as the bits that a local holds: by cases on how far a sum is out of the range, what `reduce` makes of it is `wrap` of it,
 -- and what fits 32 bits is read back as it was.
-use Prim.Native.Nat.{ℕ, zero, suc, _+_, _-_, _*_, _^_, _/_, _%_, _≤_, _<_}
+use Prim.Native.Nat.{ℕ, zero, suc, _+_, _-_, _≤_, _<_}
 use mathlib.Core.Path.{_≡_, refl, ap, _∙_, sym, subst}
 use mathlib.Core.Bool.{Bool, true, false}
 use mathlib.Core.Bool.{cond}
 use native.Mathlib.Omega.{arith}
 use lib.Dec.{T, ltb}
 use borrow.Author.Tests.{ltb-true, ltb-false}
-use lib.IntN.{ℤ, pos, negsuc, negℤ, subℕ, _+ℤ_, _-ℤ_, _*ℤ_}
+use lib.IntN.{ℤ, pos, negsuc, negℤ, _+ℤ_, _-ℤ_}
 use lib.Signed.{mag, ltZ, shrZ, mag-shr}
-use mir.Val.{SFits, Fits, toZ, ofZ}
+use mir.Val.{SFits, toZ, ofZ}
 use mir.Syntax.{w32, w64}
-use mir.ValLaws.{toZ-ofZ, toZ-fits, sfits-le}
+use mir.ValLaws.{toZ-ofZ, sfits-le}
 use Rattle.lifting.specs.Wrap.{wrap, low32}
 use Rattle.lifting.proofs.WrapLaws.{wrap-fits}
 

@@ -1,7 +1,7 @@
 -- Programs one after another: they run in their order and are undone in the other, by induction on the first.
-use Prim.Native.Nat.{ℕ, zero, suc}
-use mathlib.Core.Path.{_≡_, refl, sym, _∙_, ap}
-use mathlib.Core.List.{List, [], _∷_}
+use Prim.Native.Nat.{ℕ, suc}
+use mathlib.Core.Path.{_≡_, refl, ap}
+use mathlib.Core.List.{List}
 use lib.IntN.{ℤ}
 use Rattle.lifting.specs.Program.{Program, end, _⨾_, reorder, apply, line, back, get, put, run, undo, _then_, each, runBy, undoBy}
 

@@ -15,3 +15,5 @@ pub mod Apart
 pub mod IntLaws
 pub mod Forms
 pub mod Calm
+pub mod Outside
+pub mod Traces

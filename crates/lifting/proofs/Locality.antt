@@ -6,7 +6,7 @@ use mathlib.Core.List.{List, [], _∷_}
 use native.Mathlib.Omega.{arith}
 use lib.ListN.{length}
 use lib.IntN.{ℤ}
-use Rattle.lifting.specs.Program.{Program, end, apply, Operator, at, get, put, run, undo, runBy, undoBy}
+use Rattle.lifting.specs.Program.{Program, end, apply, Operator, at, get, put, runBy, undoBy}
 use Rattle.lifting.proofs.Reverse.{length-put}
 use Rattle.lifting.proofs.Between.{All, all-map, Pairing, OneToOne, Pairs, Alike, Like, put-left, get-both, like-use}
 

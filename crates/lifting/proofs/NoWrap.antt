@@ -2,7 +2,7 @@
 -- uses, and undoing, which is the run of the program turned around: all by induction on the program.
 use Prim.Native.Nat.{ℕ, suc}
 use mathlib.Core.Path.{_≡_, refl, sym, _∙_, ap}
-use mathlib.Core.Bool.{Bool, true, false, not, _||_}
+use mathlib.Core.Bool.{Bool, true, false, not, _||_, or-assoc, or-false}
 use mathlib.Core.List.{List}
 use native.Mathlib.Omega.{arith}
 use lib.Dec.{T, eqb, eqb→eq, eqb-refl}
@@ -12,7 +12,7 @@ use mir.Syntax.{w32}
 use Rattle.lifting.specs.Wrap.{wrap}
 use Rattle.lifting.specs.Program.{Expr, var, _⊕_, _⊖_, 3×, _≫_, Line, _+=_, _-=_, _from_, neg, swap, Operator, Program, end, _⨾_, reorder, apply, value, line, get, put, run, back, undo, _then_, each, valueBy, lineBy, runBy, undoBy}
 use Rattle.lifting.specs.Wraps.{same, changes, valueWraps, lineWraps, wraps, undoWraps, exactRun, exactUndo}
-use Rattle.lifting.proofs.Tests.{or-no, or-assoc, or-false}
+use Rattle.lifting.proofs.Tests.{or-no}
 use Rattle.lifting.proofs.WrapLaws.{wrap-id}
 use Rattle.lifting.proofs.Compose.{run-then, undo-then}
 

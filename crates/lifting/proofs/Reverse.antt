@@ -1,21 +1,19 @@
 -- A valid program is undone by `undo`, and `undo` by it.
-use Prim.Native.Nat.{ℕ, zero, suc, _+_, _-_, _*_, _^_, _≤_, _<_}
+use Prim.Native.Nat.{ℕ, zero, suc, _+_, _-_, _<_}
 use mathlib.Core.Path.{_≡_, refl, sym, _∙_, ap, subst}
 use mathlib.Core.Logic.{_≢_}
-use mathlib.Core.Bool.{Bool, true, false, not, _&&_}
+use mathlib.Core.Bool.{not, _&&_}
 use mathlib.Core.List.{List, [], _∷_, map}
 use native.Mathlib.Omega.{arith}
 use lib.Dec.{T, ltb, eqb, ltb→lt, eqb→eq, eqb-refl}
 use lib.ListN.{length, getD, set, drop, length-set, drop-of-length-le}
 use lib.Seq.{drop-cons, getD-set-same, getD-set-other, set-getD, set-set, set-comm}
-use lib.IntN.{ℤ, pos, negsuc, negℤ, _+ℤ_, _-ℤ_, _*ℤ_}
-use lib.Signed.{shrZ, mag-shr}
+use lib.IntN.{ℤ, pos, _+ℤ_, _-ℤ_}
 use mir.Val.{SFits}
-use mir.ValLaws.{sfits-le}
 use mir.Syntax.{w32}
 use mir.Facts.{sfits-lit, and-yes, T-not}
 use Rattle.lifting.specs.Wrap.{wrap}
-use Rattle.lifting.proofs.WrapLaws.{wrap-fits, wrap-id, add-sub, sub-add, from-from, neg-neg}
+use Rattle.lifting.proofs.WrapLaws.{wrap-fits, add-sub, sub-add, from-from, neg-neg}
 use Rattle.lifting.specs.Program.{Expr, var, _⊕_, _⊖_, 3×, _≫_, Line, _+=_, _-=_, _from_, neg, swap, Program, end, _⨾_, reorder, apply, at, value, line, get, put, run, back, undo, lineBy, runBy, undoBy, valueBy}
 use Rattle.lifting.specs.Row.{Row}
 use Rattle.lifting.specs.Valid.{without, validLine, notIn, places, counts, undoes, valid}

@@ -2,7 +2,7 @@
 -- The laws of `||`, by cases, and of `any`, by induction on n.
 use Prim.Native.Nat.{ℕ, zero, suc, _+_, _*_, _≤_, _<_}
 use mathlib.Core.Path.{_≡_, refl, subst, sym, _∙_, ap, ap₂}
-use mathlib.Core.Bool.{Bool, true, false, _&&_, _||_}
+use mathlib.Core.Bool.{Bool, true, false, _&&_, _||_, or-assoc, or-false, or-comm}
 use native.Mathlib.Omega.{arith}
 use native.Mathlib.Decide.{decLe}
 use native.Mathlib.Nat.{add-zero, add-suc, mul-zero, mul-suc, mul-comm}
@@ -35,21 +35,8 @@ or-no false b e = (refl, e)
 pub no-or : {a b : Bool} → a ≡ false → b ≡ false → a || b ≡ false
 no-or {a} {b} h k = rw (h, k)
 
-pub or-assoc : (a b c : Bool) → (a || b) || c ≡ a || (b || c)
-or-assoc true b c = refl
-or-assoc false b c = refl
-
-pub or-false : (a : Bool) → a || false ≡ a
-or-false true = refl
-or-false false = refl
-
-pub or-comm : (a b : Bool) → a || b ≡ b || a
-or-comm true b = sym (or-true b)
-  where
-    or-true : (b : Bool) → b || true ≡ true
-    or-true true = refl
-    or-true false = refl
-or-comm false b = sym (or-false b)
+pub or-swap : (a b c : Bool) → a || b || c ≡ a || c || b
+or-swap a b c = or-assoc a b c ∙ ap (λ x. a || x) (or-comm b c) ∙ sym (or-assoc a c b)
 
 -- (a or b) or (c or d), the inner two exchanged
 pub or-middle : (a b c d : Bool) → (a || b) || (c || d) ≡ (a || c) || (b || d)
@@ -70,3 +57,31 @@ any-more m (suc n) f = rw (add-suc m n) (ap (λ b. b || f (m + n)) (any-more m n
 pub any-rows : (p q : ℕ) (f : ℕ → Bool) → any q (λ j. any p (λ i. f (j * p + i))) ≡ any (p * q) f
 any-rows p zero f = rw (mul-zero p)
 any-rows p (suc q) f = rw (mul-suc p q, any-more (p * q) p f) (ap₂ _||_ (any-rows p q f) (ap (λ n. any p (λ i. f (n + i))) (mul-comm q p)))
+
+-- ---- a walk that ends at the first
+
+pub any-yes : (n : ℕ) (f : ℕ → Bool) (k : ℕ) → k < n → f k ≡ true → any n f ≡ true
+any-yes zero f k h e = absurd (omega arith)
+any-yes (suc n) f k h e = case (decLe n k) (λ l. any-yes n f k l e)
+  where
+    case : Dec (n ≤ k) → (k < n → any n f ≡ true) → any n f || f n ≡ true
+    case (yes g) below = let z : k ≡ n = omega arith in or-comm (any n f) (f n) ∙ ap (λ b. b || any n f) (subst (λ (i : ℕ). f i ≡ true) z e)
+    case (no g) below = ap (λ b. b || f n) (below (omega (arith, g)))
+
+-- none of those below n
+abbrev pub None : ℕ → (ℕ → Bool) → Type 0
+None n f = (k : ℕ) → k < n → f k ≡ false
+
+pub none-yet : (f : ℕ → Bool) {n : ℕ} → n ≡ 0 → None n f
+none-yet f e k h = absurd (omega arith)
+
+pub none-more : (n : ℕ) (f : ℕ → Bool) → None n f → f n ≡ false → {m : ℕ} → m ≡ n + 1 → None m f
+none-more n f before e z k h = case (decLe n k)
+  where
+    case : Dec (n ≤ k) → f k ≡ false
+    case (yes g) = let y : n ≡ k = omega arith in subst (λ (i : ℕ). f i ≡ false) y e
+    case (no g) = before k (omega (arith, g))
+
+pub any-none : (n : ℕ) (f : ℕ → Bool) → None n f → any n f ≡ false
+any-none zero f h = refl
+any-none (suc n) f h = no-or (any-none n f (λ k l. h k (omega arith))) (h n (omega arith))

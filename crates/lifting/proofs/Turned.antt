@@ -2,7 +2,7 @@
 -- gives it back, so that the sum is exact there if and only if the difference is exact back; the expression reads the same numbers both ways. The rest is by induction on the program.
 use Prim.Native.Nat.{ℕ, _<_}
 use mathlib.Core.Path.{_≡_, refl, sym, _∙_, ap}
-use mathlib.Core.Bool.{Bool, true, false, not, _&&_, _||_}
+use mathlib.Core.Bool.{Bool, true, false, not, _&&_, _||_, or-comm}
 use mathlib.Core.List.{List}
 use native.Mathlib.Omega.{arith}
 use lib.Dec.{T, ltb, ltb→lt}
@@ -17,7 +17,6 @@ use Rattle.lifting.specs.Program.{Expr, var, _⊕_, _⊖_, 3×, _≫_, L
 use Rattle.lifting.specs.Row.{Row}
 use Rattle.lifting.specs.Valid.{without, validLine, places, undoes, valid}
 use Rattle.lifting.specs.Wraps.{same, changes, valueWraps, lineWraps, wraps, undoWraps}
-use Rattle.lifting.proofs.Tests.{or-comm}
 use Rattle.lifting.proofs.WrapLaws.{add-sub, sub-add, from-from, neg-neg}
 use Rattle.lifting.proofs.Reverse.{row-line, row-get, row-put, row-reorder, row-run, row-undo, value-set, get-put, undo-run, run-undo}
 use Rattle.lifting.proofs.NoWrap.{same-refl, same-eq}

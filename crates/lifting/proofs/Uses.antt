@@ -1,16 +1,12 @@
 -- Programs one after another are valid where each is, by induction on the first; places moved by a map that keeps them apart stay apart.
-use Prim.Native.Nat.{ℕ, zero, suc, _+_, _*_, _/_, _≤_, _<_}
-use mathlib.Core.Path.{_≡_, refl, sym, _∙_, ap, subst}
-use mathlib.Core.Logic.{_≢_}
-use mathlib.Core.Bool.{Bool, true, false, not, _&&_}
+use Prim.Native.Nat.{ℕ, _<_}
+use mathlib.Core.Path.{_≡_}
+use mathlib.Core.Bool.{not}
 use mathlib.Core.List.{List, [], _∷_, map}
-use native.Mathlib.Omega.{arith}
-use native.Mathlib.Decide.{ℕ-discrete}
 use lib.Dec.{T, ltb, eqb, ltb→lt, lt→ltb, eqb→eq}
 use lib.ListN.{length}
-use lib.IntN.{ℤ}
 use mir.Facts.{and-yes, yes-and, not-T}
-use Rattle.lifting.specs.Program.{Program, end, _⨾_, reorder, apply, at, get, put, run, undo, _then_, each}
+use Rattle.lifting.specs.Program.{Program, end, _⨾_, reorder, apply, _then_}
 use Rattle.lifting.specs.Valid.{validLine, notIn, places, undoes, valid}
 use Rattle.lifting.proofs.Reverse.{apart}
 

@@ -1,7 +1,7 @@
 -- What the steps of a line give at the ends of the range and below zero, computed: sums, differences and multiples of 3 wrap, and >> rounds down.
 use Prim.Native.Nat.{ℕ}
 use mathlib.Core.Path.{_≡_, refl}
-use mathlib.Core.List.{List, [], _∷_, map}
+use mathlib.Core.List.{[], _∷_, map}
 use lib.IntN.{ℤ, pos, negℤ}
 use Rattle.lifting.specs.Wrap.{wrap}
 use Rattle.lifting.specs.Program.{var, _⊕_, _⊖_, 3×, _≫_, value, valueBy}

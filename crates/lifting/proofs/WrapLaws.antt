@@ -1,6 +1,6 @@
 -- Laws of `wrap`. Everything goes through the remainder, `low32`, which is a natural number, so that omega can do the rest.
-use Prim.Native.Nat.{ℕ, zero, suc, _+_, _-_, _*_, _%_, _^_, _≤_, _<_}
-use mathlib.Core.Path.{_≡_, refl, sym, _∙_, ap}
+use Prim.Native.Nat.{ℕ, zero, suc, _+_, _-_, _%_, _<_}
+use mathlib.Core.Path.{_≡_, refl, _∙_, ap}
 use mathlib.Core.Bool.{Bool, true, false, not, cond}
 use native.Mathlib.Omega.{arith}
 use lib.Dec.{T, ltb, ltb→lt, nltb→le}
@@ -45,7 +45,7 @@ low-wrap : (z : ℤ) → low32 (wrap z) ≡ low32 z
 unfolding wrap
 low-wrap z = low-toZ (low32 z) (low-lt z)
 
-three-times : (a : ℤ) → pos 3 *ℤ a ≡ a +ℤ a +ℤ a
+pub three-times : (a : ℤ) → pos 3 *ℤ a ≡ a +ℤ a +ℤ a
 unfolding one
 three-times a = sucℤ-*ℤ (pos 2) a ∙ ap (λ x. x +ℤ a) (sucℤ-*ℤ (pos 1) a ∙ ap (λ x. x +ℤ a) (*ℤ-comm (pos 1) a ∙ *ℤ-one a))
 

@@ -1,6 +1,8 @@
 // Signed 32-bit arithmetic that wraps, and division by a power of two that rounds down: the steps of a lifting line.
+pub mod told; // told.rt: the same steps, with whether a reduction changed a number
+
 ghost use mathlib.Core.Path.{_≡_};
-ghost use lib.IntN.{pos, negℤ, _+ℤ_, _-ℤ_, _*ℤ_};
+ghost use lib.IntN.{_+ℤ_, _-ℤ_};
 ghost use Prim.Native.Nat.{_^_, _<_};
 ghost use lib.Signed.{shrZ, mag};
 ghost use Rattle.lifting.specs.Wrap.{wrap};
@@ -31,20 +33,6 @@ pub fn sub(a: i32, b: i32) -> i32
     ensures { λ r. ⌜ r ≡ wrap (a -ℤ b) ⌝ }
 {
     reduce((a as i64) - (b as i64))
-}
-
-// -a
-pub fn negate(a: i32) -> i32
-    ensures { λ r. ⌜ r ≡ wrap (negℤ a) ⌝ }
-{
-    sub(0, a)
-}
-
-// 3 * a
-pub fn thrice(a: i32) -> i32
-    ensures { λ r. ⌜ r ≡ wrap (pos 3 *ℤ a) ⌝ }
-{
-    add(add(a, a), a)
 }
 
 // a >> k: a divided by 2^k, rounded toward minus infinity

@@ -18,3 +18,4 @@ pub mod Alone
 pub mod Told
 pub mod NoWrap
 pub mod Sanity
+pub mod BothWays

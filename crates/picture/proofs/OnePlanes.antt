@@ -42,7 +42,7 @@ module _ (mode : Mode) (size : Size) (sized : Sized size) where
   unfolding quarterBy
   row-quarter r t = row-run (levelOne mode size) first-valid (row-first W H r t)
 
-  grid-row : {s : Planes} → PlanesOf size s → Row (256 * (W * H)) (secondGrid W H (quarterBy mode size (s .dc) (s .low)) (s .high))
+  pub grid-row : {s : Planes} → PlanesOf size s → Row (256 * (W * H)) (secondGrid W H (quarterBy mode size (s .dc) (s .low)) (s .high))
   grid-row r = row-second W H (row-quarter (r .dc) (r .low)) (r .high)
 
   pub row-inverse : {s : Planes} → PlanesOf size s → Row (256 * (W * H)) (inverseBy mode size s)

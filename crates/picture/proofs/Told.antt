@@ -19,10 +19,10 @@ use Rattle.lifting.proofs.Compose.{run-then, undo-then}
 use Rattle.lifting.proofs.Reverse.{row-run, row-undo}
 use Rattle.lifting.proofs.NoWrap.{wraps-then, undo-wraps-then}
 use Rattle.lifting.proofs.Turned.{wraps-turned, undo-wraps-turned}
-use Rattle.lifting.proofs.AnyUse.{any-use-each, any-use-apply}
+use Rattle.lifting.proofs.AnyUse.{any-use-then, any-use-each, any-use-apply}
 use Rattle.lifting.proofs.Apart.{run-alone, undone-alone, run-alone-use, undone-alone-use}
 use Rattle.figures.specs.Figures.{core, squareFilter, fourFilter}
-use Rattle.picture.specs.Level.{cell, square, strip, coreAt, squareFilterAt, fourFilterAt, cores, filters, filtersIf, level}
+use Rattle.picture.specs.Level.{cell, square, strip, coreAt, squareFilterAt, fourFilterAt, squareFilters, rowFilters, columnFilters, alongEdges, cores, filters, filtersIf, level}
 use Rattle.picture.specs.Planes.{table, grid}
 use Rattle.picture.proofs.Table.{table-same}
 use Rattle.picture.proofs.Grid.{at-grid}
@@ -36,7 +36,7 @@ pub cores-alone : (p q : ℕ) (v : List ℤ) → wraps (cores p q) v ≡ anyUse 
 unfolding coreAt
 cores-alone p q v = of-cores run-alone p q (λ S w i h. run-alone-use Core core (square w i) h) .alone v
 
-pub filters-alone : (p q : ℕ) → 0 < p → 0 < q → (v : List ℤ) → undoWraps (filters p q) v ≡ anyUse undoWraps (filters p q) v
+filters-alone : (p q : ℕ) → 0 < p → 0 < q → (v : List ℤ) → undoWraps (filters p q) v ≡ anyUse undoWraps (filters p q) v
 unfolding squareFilterAt fourFilterAt
 filters-alone p q wide tall v =
     of-filters undone-alone p q
@@ -44,6 +44,15 @@ filters-alone p q wide tall v =
       squares = λ S w i h. undone-alone-use SquareFilter squareFilter (square w i) h;
       fours = λ S w i h. undone-alone-use FourFilter fourFilter (strip w i) h;
     }) wide tall .alone v
+
+-- windows, edge rows and edge columns
+pub filters-told : (p q : ℕ) → 0 < p → 0 < q → (v : List ℤ)
+    → undoWraps (filters p q) v ≡ anyUse undoWraps (squareFilters p q) v || (anyUse undoWraps (alongEdges q (rowFilters p)) v || anyUse undoWraps (alongEdges p (columnFilters p q)) v)
+unfolding filters
+filters-told p q wide tall v =
+    filters-alone p q wide tall v
+    ∙ any-use-then undoWraps (squareFilters p q) _ v
+    ∙ ap (λ b. anyUse undoWraps (squareFilters p q) v || b) (any-use-then undoWraps (alongEdges q (rowFilters p)) (alongEdges p (columnFilters p q)) v)
 
 -- ---- the cores of a grid, square by square
 

@@ -1,5 +1,5 @@
 -- Whether a sum wraps in the inverse, the forward transform or the quarter view of a picture, and the claims that none does where the numbers are not too large.
-use Prim.Native.Nat.{ℕ, zero, suc, _*_}
+use Prim.Native.Nat.{ℕ}
 use mathlib.Core.Path.{_≡_}
 use mathlib.Core.Bool.{Bool, false, _||_}
 use mathlib.Core.List.{List}
@@ -8,8 +8,8 @@ use Rattle.lifting.specs.Wraps.{wraps, undoWraps, Within}
 use Rattle.picture.specs.declared.size.Size.{Size}
 use Rattle.picture.specs.declared.mode.Mode.{Mode}
 use Rattle.picture.specs.Modes.{modeOf}
-use Rattle.picture.specs.Planes.{Planes, firstGrid, secondGrid, viewOf}
-use Rattle.picture.specs.Transform.{levelOne, levelTwo, quarterBy, secondUndone}
+use Rattle.picture.specs.Planes.{Planes, PlanesOf, firstGrid, secondGrid, viewOf}
+use Rattle.picture.specs.Transform.{levelOne, levelTwo, quarterBy, inverse, secondUndone}
 use Rattle.picture.specs.Claims.{Shape}
 
 -- in level one on its grid, and in level two on its own
@@ -50,3 +50,7 @@ InverseDoesNotWrap = (mode : ℕ) (size : Size) → Shape mode size → (s : Pla
 
 abbrev pub ForwardDoesNotWrap : Type 0
 ForwardDoesNotWrap = (mode : ℕ) (size : Size) → Shape mode size → (samples : List ℤ) → Within 4194304 samples → forwardWraps mode size samples ≡ false
+
+-- the way there wraps if and only if the way back does
+abbrev pub WrapsBothWays : Type 0
+WrapsBothWays = (mode : ℕ) (size : Size) → Shape mode size → (s : Planes) → PlanesOf size s → inverseWraps mode size s ≡ forwardWraps mode size (inverse mode size s)

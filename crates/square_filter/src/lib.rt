@@ -3,15 +3,21 @@ mod filter_stages; // filter_stages.rt: the stages of Figure 4.14 after its firs
 
 ghost use mathlib.Core.Path.{_≡_};
 ghost use Rattle.lifting.specs.Program.{run, undo};
+ghost use Rattle.lifting.specs.Wraps.{wraps, undoWraps};
 ghost use Rattle.figures.specs.Block.{flat};
 ghost use Rattle.figures.specs.Figures.{squareFilter as squareFilterLines};
 use crate::filter_stages::crossed;
+use crate::filter_stages::crossed_told;
 use crate::filter_stages::post_hadamards;
+use crate::filter_stages::post_hadamards_told;
 use crate::filter_stages::undo_crossed;
+use crate::filter_stages::undo_crossed_told;
 use crate::filter_stages::undo_post_hadamards;
+use crate::filter_stages::undo_post_hadamards_told;
 use blocks::mirrored;
 use blocks::split;
 use blocks::stage::hadamards;
+use blocks::stage::hadamards_told;
 
 // Figure 4.14
 pub fn square_filter(b: [[i32; 4]; 4]) -> [[i32; 4]; 4]
@@ -25,4 +31,24 @@ pub fn undo_square_filter(b: [[i32; 4]; 4]) -> [[i32; 4]; 4]
     ensures { λ r. ⌜ flat r ≡ undo squareFilterLines (flat b) ⌝ }
 {
     mirrored(hadamards(undo_crossed(undo_post_hadamards(split(b)))))
+}
+
+// Whether a reduction changes a number in Figure 4.14
+pub fn square_filter_wraps(b: [[i32; 4]; 4]) -> bool
+    ensures { λ r. ⌜ r ≡ wraps squareFilterLines (flat b) ⌝ }
+{
+    let first = hadamards_told(true, split(b));
+    let second = crossed_told(first.quads);
+    let third = post_hadamards_told(true, second.quads);
+    first.wrapped | second.wrapped | third.wrapped
+}
+
+// And in Figure 4.14 undone
+pub fn undo_square_filter_wraps(b: [[i32; 4]; 4]) -> bool
+    ensures { λ r. ⌜ r ≡ undoWraps squareFilterLines (flat b) ⌝ }
+{
+    let first = undo_post_hadamards_told(true, split(b));
+    let second = undo_crossed_told(first.quads);
+    let third = hadamards_told(true, second.quads);
+    first.wrapped | second.wrapped | third.wrapped
 }

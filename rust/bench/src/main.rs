@@ -1,16 +1,18 @@
 //! The proved library timed beside the plain reference, memcpy and, where it is installed, jxrlib.
 //!
-//! Usage: bench [--inverse] [--forward] [--levels] [--finder] [--file] [--jxrlib]; without a flag,
-//! every section.
+//! Usage: bench [--inverse] [--forward] [--wraps] [--levels] [--finder] [--file] [--jxrlib]; without a
+//! flag, every section.
 
 mod finder;
 mod kernels;
 mod levels;
 mod measure;
+mod wraps;
 
 use lapped::{Mode, Planes, PlanesMut, PlanesRef, Size};
 use measure::{black_box, median_nanoseconds};
-use reference::picture::{forward_with_scratch, inverse_with_scratch, Scratch};
+use reference::number::Plain;
+use reference::picture::{forward_by, inverse_by, Scratch};
 use reference::plane_file;
 use reference::random::{Random, Values};
 
@@ -18,10 +20,11 @@ use reference::random::{Random, Values};
 const SIZES: [(u32, u32); 4] = [(1, 1), (4, 4), (64, 64), (525, 413)];
 
 const HEADING: &str = "\
-Nanoseconds of processor time per sample (for levels and files: per number of the planes; for finder
-and jxrlib: as said there), medians. The columns take turns in one run, on the same buffers. Every
-buffer is written once before the clock starts, so no first touch of a page is timed; no buffer is
-cleared between runs. The plain reference's working memory is allocated beforehand.";
+Nanoseconds of processor time per sample (for levels and files: per number of the planes; for wraps,
+finder and jxrlib: as said there), medians. The columns take turns in one run, on the same buffers.
+Every buffer is written once before the clock starts, so no first touch of a page is timed; no buffer
+is cleared between runs. The plain reference's working memory is allocated beforehand, and it does not
+look for sums that wrap.";
 
 fn main() {
     let flags: Vec<String> = std::env::args().skip(1).collect();
@@ -38,9 +41,10 @@ fn main() {
     }
 }
 
-const SECTIONS: [(&str, fn()); 6] = [
+const SECTIONS: [(&str, fn()); 7] = [
     ("--inverse", inverse_section),
     ("--forward", forward_section),
+    ("--wraps", wraps::section),
     ("--levels", levels::section),
     ("--finder", finder::section),
     ("--file", file_section),
@@ -131,7 +135,8 @@ fn inverse_section() {
             let size = picture.reference_size();
             let Picture { n, planes, samples, scratch, .. } = picture;
             let PlanesRef { dc, low, high } = split(planes, *n);
-            inverse_with_scratch(mode.number(), size, dc, low, high, black_box(samples), scratch);
+            let (number, samples) = (mode.number(), black_box(samples));
+            inverse_by::<Plain>(number, size, dc, low, high, samples, &mut scratch.quarter);
         };
         let memcpy = |picture: &mut Picture| {
             black_box(&mut picture.samples).copy_from_slice(black_box(&picture.planes));
@@ -154,7 +159,7 @@ fn forward_section() {
             let size = picture.reference_size();
             let Picture { n, planes, samples, scratch, .. } = picture;
             let PlanesMut { dc, low, high } = split_mut(black_box(planes), *n);
-            forward_with_scratch(mode.number(), size, samples, dc, low, high, scratch);
+            forward_by::<Plain>(mode.number(), size, samples, dc, low, high, scratch);
         };
         let memcpy = |picture: &mut Picture| {
             black_box(&mut picture.planes).copy_from_slice(black_box(&picture.samples));

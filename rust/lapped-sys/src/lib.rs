@@ -7,16 +7,16 @@
 //! must overlap nothing else that is passed.
 //!
 //! ```
-//! use lapped_sys::{lapped_quarter, lapped_size};
+//! use lapped_sys::{lapped_answer, lapped_quarter, lapped_size};
 //!
 //! let size = lapped_size { width: 1, height: 1 };
 //! let (dc, low, mut view) = ([64], [0; 15], [0; 16]);
 //! // SAFETY: each pointer comes with the length of its array, and only `view` is written.
-//! let number = unsafe {
+//! let answer = unsafe {
 //!     let (dc, low, view) = (dc.as_ptr(), low.as_ptr(), view.as_mut_ptr());
 //!     lapped_quarter(0, size, dc, 1, low, 15, view, 16)
 //! };
-//! assert_eq!(number, 0);
+//! assert_eq!(answer, lapped_answer { number: 0, wrapped: false });
 //! assert_eq!(view, [16; 16]);
 //! ```
 
@@ -38,6 +38,14 @@ pub struct lapped_steps {
     pub dc: u32,
     pub low: u32,
     pub high: u32,
+}
+
+/// What the transform answers: the number and, if it is 0, whether a sum wrapped; else false.
+#[repr(C)]
+#[derive(Clone, Copy, Debug, PartialEq, Eq)]
+pub struct lapped_answer {
+    pub number: u32,
+    pub wrapped: bool,
 }
 
 /// What reading a plane file gives: the answer and, if it is 0, the mode and the size; else zeros.
@@ -83,7 +91,7 @@ extern "C" {
         high_len: usize,
         samples: *mut i32,
         samples_len: usize,
-    ) -> u32;
+    ) -> lapped_answer;
 
     /// The quarter-size view, from the DC and low-pass planes alone. Checks 1, 2, 3, 4, 5, 8.
     pub fn lapped_quarter(
@@ -95,7 +103,7 @@ extern "C" {
         low_len: usize,
         view: *mut i32,
         view_len: usize,
-    ) -> u32;
+    ) -> lapped_answer;
 
     /// From samples to coefficient planes. Checks 1, 2, 3, 7, 4, 5, 6.
     pub fn lapped_forward(
@@ -109,7 +117,7 @@ extern "C" {
         low_len: usize,
         high: *mut i32,
         high_len: usize,
-    ) -> u32;
+    ) -> lapped_answer;
 
     /// The work of a picture, from its mode and size alone. Checks 1, 2, 3.
     pub fn lapped_forecast(mode: u32, size: lapped_size) -> lapped_work;

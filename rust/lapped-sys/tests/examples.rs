@@ -9,8 +9,10 @@ use std::process::Command;
 fn roundtrip_text() -> String {
     let samples: Vec<i32> = (0..256 * 6).map(|i| i * i / 7 % 256).collect();
     let (mut dc, mut low, mut high) = (vec![0; 6], vec![0; 15 * 6], vec![0; 240 * 6]);
-    reference::forward(2, Size::new(2, 3), &samples, &mut dc, &mut low, &mut high).unwrap();
-    format!("DC of the first macroblock: {}\nall 1536 samples came back\n", dc[0])
+    let size = Size::new(2, 3);
+    let wrapped = reference::forward(2, size, &samples, &mut dc, &mut low, &mut high).unwrap();
+    let words = if wrapped { "a sum wrapped" } else { "no sum wrapped" };
+    format!("DC of the first macroblock: {}\nall 1536 samples came back, {words}\n", dc[0])
 }
 
 #[test]
@@ -19,13 +21,12 @@ fn roundtrip() {
     assert_eq!(succeed(&mut Command::new(program)), roundtrip_text());
 }
 
-/// The quarter view of the file that is shipped, by the reference.
-fn quarter_text() -> String {
-    let bytes = std::fs::read(root().join("examples/disc.planes")).unwrap();
-    let header = plane_file::read_header(&bytes).unwrap();
+/// The quarter view of a plane file, by the reference.
+fn quarter_text(bytes: &[u8]) -> String {
+    let header = plane_file::read_header(bytes).unwrap();
     let n = header.size.macroblocks() as usize;
     let (mut dc, mut low, mut high) = (vec![0; n], vec![0; 15 * n], vec![0; 240 * n]);
-    plane_file::load(&bytes, &mut dc, &mut low, &mut high).unwrap();
+    plane_file::load(bytes, &mut dc, &mut low, &mut high).unwrap();
     let mut view = vec![0; 16 * n];
     quarter_view(header.mode, header.size, &dc, &low, &mut view).unwrap();
     let rows = view.chunks_exact(4 * header.size.width as usize);
@@ -36,7 +37,20 @@ fn quarter_text() -> String {
 fn quarter() {
     let program = C99.build(&root().join("examples/quarter.c"), "quarter");
     let sound = root().join("examples/disc.planes");
-    assert_eq!(succeed(Command::new(&program).arg(sound)), quarter_text());
+    let ran = output(Command::new(&program).arg(&sound));
+    let expected = quarter_text(&std::fs::read(sound).unwrap());
+    assert_eq!(String::from_utf8_lossy(&ran.stdout), expected);
+    assert!(ran.status.success() && ran.stderr.is_empty());
+
+    let wild = program_path("wild.planes");
+    let mut bytes = vec![0; 32 + 1024];
+    let dc = [i32::MAX]; // in mode 0 it makes a sum wrap by itself
+    plane_file::save(0, Size::new(1, 1), &dc, &[0; 15], &[0; 240], &mut bytes).unwrap();
+    std::fs::write(&wild, &bytes).unwrap();
+    let ran = output(Command::new(&program).arg(wild));
+    assert_eq!(String::from_utf8_lossy(&ran.stdout), quarter_text(&bytes));
+    let told = String::from_utf8_lossy(&ran.stderr);
+    assert_eq!(told, "a sum wrapped: the file has wild numbers\n");
 
     let short = program_path("short.planes");
     std::fs::write(&short, [0; 31]).unwrap();

@@ -3,7 +3,9 @@
 mod common;
 use common::*;
 use lapped::{Mode, Refusal};
-use lapped_sys::{lapped_found, lapped_header, lapped_size, lapped_steps, lapped_work};
+use lapped_sys::{
+    lapped_answer, lapped_found, lapped_header, lapped_size, lapped_steps, lapped_work,
+};
 use std::fmt::Write;
 use std::mem::size_of;
 use std::path::Path;
@@ -19,15 +21,16 @@ fn expected() -> String {
 
     writeln!(text, "size {}: 0 4", size_of::<lapped_size>()).unwrap();
     writeln!(text, "steps {}: 0 4 8", size_of::<lapped_steps>()).unwrap();
+    writeln!(text, "answer {}: 0 4", size_of::<lapped_answer>()).unwrap();
     writeln!(text, "header {}: 0 4 8", size_of::<lapped_header>()).unwrap();
     writeln!(text, "found {}: 0 4", size_of::<lapped_found>()).unwrap();
     writeln!(text, "work {}: 0 4 8 12 16 20", size_of::<lapped_work>()).unwrap();
     let [none, samples, both] = Mode::ALL.map(Mode::number);
     writeln!(text, "modes {none} {samples} {both}").unwrap();
 
-    writeln!(text, "answer 0: done").unwrap();
+    writeln!(text, "number 0: done").unwrap();
     for number in 1..=15 {
-        writeln!(text, "answer {number}: {}", Refusal::from_number(number).unwrap()).unwrap();
+        writeln!(text, "number {number}: {}", Refusal::from_number(number).unwrap()).unwrap();
     }
     for number in [16, u32::MAX] {
         writeln!(text, "{number}: a number that this header does not list").unwrap();

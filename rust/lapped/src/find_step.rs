@@ -27,7 +27,7 @@ impl Found {
     /// assert!(samples.iter().zip(&back).all(|(sample, back)| sample.abs_diff(*back) <= 10));
     ///
     /// // For the archive: levels, of which these coefficients are restored.
-    /// let coefficients = Planes::from_samples(mode, size, &samples)?;
+    /// let (coefficients, _) = Planes::from_samples(mode, size, &samples)?;
     /// let levels = coefficients.quantised(mode, Steps::all(index))?;
     /// assert_eq!(levels.restored(mode, Steps::all(index))?, planes);
     /// # Ok::<(), lapped::Refusal>(())

@@ -3,10 +3,11 @@
 //! A picture is made of macroblocks of 16 × 16 samples. [`forward`] takes its samples to three planes
 //! of coefficients, [`inverse`] takes the planes back to the same samples, and [`quarter_view`] shows
 //! the picture at a quarter of its width and height. A [`PlaneFile`] keeps planes as bytes. Samples
-//! and coefficients are `i32`, any values; sums wrap. For a smaller archive, [`quantise`] takes
-//! coefficients to levels, smaller numbers that [`restore`] takes back to nearly the same coefficients;
-//! the step of each band, chosen by [`Steps`], says how nearly, and [`find_step`] finds one that keeps
-//! every sample within a tolerance. [`forecast`] says beforehand how much work a picture is.
+//! and coefficients are `i32`, any values; sums wrap, and the transform tells where one did by
+//! [`Wrapped`]. For a smaller archive, [`quantise`] takes coefficients to levels, smaller numbers
+//! that [`restore`] takes back to nearly the same coefficients; the step of each band, chosen by
+//! [`Steps`], says how nearly, and [`find_step`] finds one that keeps every sample within a
+//! tolerance. [`forecast`] says beforehand how much work a picture is.
 //!
 //! The calls are functions of `liblapped.a`, which is proved to meet its definitions for every input.
 //! This crate adds the types: a call that gets a [`Mode`] and a [`Size`] can only be refused for the
@@ -15,13 +16,15 @@
 //! may run side by side.
 //!
 //! ```
-//! use lapped::{Mode, Planes, Size};
+//! use lapped::{Mode, Planes, Size, Wrapped};
 //!
 //! let size = Size::new(2, 3)?; // in macroblocks
 //! let samples: Vec<i32> = (0..256 * 6).collect();
 //!
-//! let planes = Planes::from_samples(Mode::BothLevels, size, &samples)?;
-//! assert_eq!(planes.to_samples(Mode::BothLevels)?, samples);
+//! let (planes, _) = Planes::from_samples(Mode::BothLevels, size, &samples)?;
+//! let (back, wrapped) = planes.to_samples(Mode::BothLevels)?;
+//! assert_eq!(back, samples);
+//! assert_eq!(wrapped, Wrapped::No); // these are no wild numbers
 //! # Ok::<(), lapped::Refusal>(())
 //! ```
 //!
@@ -43,6 +46,7 @@ mod refusal;
 mod size;
 mod steps;
 mod transform;
+mod wrapped;
 
 pub use find_step::{find_step, Found};
 pub use forecast::{forecast, Work};
@@ -54,3 +58,4 @@ pub use refusal::Refusal;
 pub use size::Size;
 pub use steps::{step, Steps};
 pub use transform::{forward, inverse, quarter_view};
+pub use wrapped::Wrapped;

@@ -1,6 +1,6 @@
 //! Plane files: planes with their mode and size as bytes.
 
-use crate::{Mode, Planes, PlanesMut, PlanesRef, Refusal, Size};
+use crate::{Mode, Planes, PlanesMut, PlanesRef, Refusal, Size, Wrapped};
 use lapped_sys::lapped_header;
 
 /// Planes with the mode in which they are to be read: what a plane file holds.
@@ -12,7 +12,7 @@ use lapped_sys::lapped_header;
 /// ```
 /// use lapped::{Mode, PlaneFile, Planes, Size};
 ///
-/// let planes = Planes::from_samples(Mode::BothLevels, Size::new(1, 1)?, &[4; 256])?;
+/// let (planes, _) = Planes::from_samples(Mode::BothLevels, Size::new(1, 1)?, &[4; 256])?;
 /// let file = PlaneFile { mode: Mode::BothLevels, planes };
 /// let bytes = file.to_bytes()?;
 /// assert_eq!(bytes.len(), 32 + 1024);
@@ -68,32 +68,33 @@ impl PlaneFile {
         Ok(bytes)
     }
 
-    /// The samples of the picture, in raster order.
+    /// The samples of the picture, in raster order, and whether a sum wrapped.
     ///
     /// ```
-    /// use lapped::{Mode, PlaneFile, Planes, Size};
+    /// use lapped::{Mode, PlaneFile, Planes, Size, Wrapped};
     ///
     /// let planes = Planes::zeroed(Size::new(1, 1)?);
     /// let mut file = PlaneFile { mode: Mode::Unfiltered, planes };
     /// file.planes.dc[0] = 64;
-    /// assert_eq!(file.to_samples()?, [4; 256]);
-    /// assert_eq!(file.to_quarter_view()?, [16; 16]);
+    /// assert_eq!(file.to_samples()?, (vec![4; 256], Wrapped::No));
+    /// assert_eq!(file.to_quarter_view()?, (vec![16; 16], Wrapped::No));
     /// # Ok::<(), lapped::Refusal>(())
     /// ```
     ///
     /// # Errors
     ///
     /// Those of [`Planes::to_samples`].
-    pub fn to_samples(&self) -> Result<Vec<i32>, Refusal> {
+    pub fn to_samples(&self) -> Result<(Vec<i32>, Wrapped), Refusal> {
         self.planes.to_samples(self.mode)
     }
 
-    /// The picture at a quarter of its width and height, in raster order.
+    /// The picture at a quarter of its width and height, in raster order, and whether a sum wrapped in
+    /// the level that makes it.
     ///
     /// # Errors
     ///
     /// Those of [`Planes::to_quarter_view`].
-    pub fn to_quarter_view(&self) -> Result<Vec<i32>, Refusal> {
+    pub fn to_quarter_view(&self) -> Result<(Vec<i32>, Wrapped), Refusal> {
         self.planes.to_quarter_view(self.mode)
     }
 }
@@ -147,7 +148,7 @@ pub fn read_header(bytes: &[u8]) -> Result<Header, Refusal> {
 ///
 /// let size = Size::new(1, 1)?;
 /// let mut bytes = vec![0; size.file_bytes()];
-/// let planes = Planes::from_samples(Mode::SampleLevel, size, &[4; 256])?;
+/// let (planes, _) = Planes::from_samples(Mode::SampleLevel, size, &[4; 256])?;
 /// save(Mode::SampleLevel, size, planes.as_ref(), &mut bytes)?;
 ///
 /// let mut loaded = Planes::zeroed(read_header(&bytes)?.size);

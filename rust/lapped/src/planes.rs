@@ -1,6 +1,8 @@
 //! The three coefficient planes of a picture, owned and lent.
 
-use crate::{forward, inverse, quantise, quarter_view, restore, Mode, Refusal, Size, Steps};
+use crate::{
+    forward, inverse, quantise, quarter_view, restore, Mode, Refusal, Size, Steps, Wrapped,
+};
 
 /// The coefficient planes of a picture, owned.
 ///
@@ -14,7 +16,8 @@ use crate::{forward, inverse, quantise, quarter_view, restore, Mode, Refusal, Si
 ///
 /// let mut planes = Planes::zeroed(Size::new(1, 1)?);
 /// planes.dc[0] = 64;
-/// assert_eq!(planes.to_samples(Mode::Unfiltered)?, [4; 256]);
+/// let (samples, _) = planes.to_samples(Mode::Unfiltered)?;
+/// assert_eq!(samples, [4; 256]);
 /// # Ok::<(), lapped::Refusal>(())
 /// ```
 #[derive(Clone, Debug, PartialEq, Eq)]
@@ -49,16 +52,18 @@ impl Planes {
         }
     }
 
-    /// The planes of a picture: the only ones from which [`Planes::to_samples`] makes it.
+    /// The planes of a picture, the only ones from which [`Planes::to_samples`] makes it, and whether a
+    /// sum wrapped.
     ///
     /// ```
-    /// use lapped::{Mode, Planes, Refusal, Size};
+    /// use lapped::{Mode, Planes, Refusal, Size, Wrapped};
     ///
     /// let size = Size::new(1, 1)?;
-    /// let planes = Planes::from_samples(Mode::Unfiltered, size, &[4; 256])?;
+    /// let (planes, wrapped) = Planes::from_samples(Mode::Unfiltered, size, &[4; 256])?;
     /// assert_eq!(planes.dc, [64]);
     /// assert_eq!(planes.low, [0; 15]);
     /// assert_eq!(planes.high, [0; 240]);
+    /// assert_eq!(wrapped, Wrapped::No);
     ///
     /// let refused = Planes::from_samples(Mode::Unfiltered, size, &[4; 255]);
     /// assert_eq!(refused, Err(Refusal::SamplesLength));
@@ -68,20 +73,25 @@ impl Planes {
     /// # Errors
     ///
     /// [`Refusal::SamplesLength`] if the samples are not as many as [`Size::samples`] says.
-    pub fn from_samples(mode: Mode, size: Size, samples: &[i32]) -> Result<Planes, Refusal> {
+    pub fn from_samples(
+        mode: Mode,
+        size: Size,
+        samples: &[i32],
+    ) -> Result<(Planes, Wrapped), Refusal> {
         let mut planes = Planes::zeroed(size);
-        forward(mode, size, samples, planes.as_mut())?;
-        Ok(planes)
+        let wrapped = forward(mode, size, samples, planes.as_mut())?;
+        Ok((planes, wrapped))
     }
 
-    /// The samples of the picture, in raster order.
+    /// The samples of the picture, in raster order, and whether a sum wrapped.
     ///
     /// ```
-    /// use lapped::{Mode, Planes, Size};
+    /// use lapped::{Mode, Planes, Size, Wrapped};
     ///
     /// let planes = Planes::zeroed(Size::new(3, 1)?);
-    /// let samples = planes.to_samples(Mode::BothLevels)?;
+    /// let (samples, wrapped) = planes.to_samples(Mode::BothLevels)?;
     /// assert_eq!(samples, vec![0; 48 * 16]);
+    /// assert_eq!(wrapped, Wrapped::No);
     /// # Ok::<(), lapped::Refusal>(())
     /// ```
     ///
@@ -89,30 +99,33 @@ impl Planes {
     ///
     /// [`Refusal::DcLength`], [`Refusal::LowPassLength`] or [`Refusal::HighPassLength`] if a plane
     /// does not fit the size.
-    pub fn to_samples(&self, mode: Mode) -> Result<Vec<i32>, Refusal> {
+    pub fn to_samples(&self, mode: Mode) -> Result<(Vec<i32>, Wrapped), Refusal> {
         let mut samples = vec![0; self.size.samples()];
-        inverse(mode, self.size, self.as_ref(), &mut samples)?;
-        Ok(samples)
+        let wrapped = inverse(mode, self.size, self.as_ref(), &mut samples)?;
+        Ok((samples, wrapped))
     }
 
-    /// The picture at a quarter of its width and height, in raster order.
+    /// The picture at a quarter of its width and height, in raster order, and whether a sum wrapped in
+    /// the level that makes it.
     ///
     /// ```
-    /// use lapped::{Mode, Planes, Size};
+    /// use lapped::{Mode, Planes, Size, Wrapped};
     ///
     /// let mut planes = Planes::zeroed(Size::new(1, 1)?);
     /// planes.dc[0] = 64;
-    /// assert_eq!(planes.to_quarter_view(Mode::Unfiltered)?, [16; 16]);
+    /// let (view, wrapped) = planes.to_quarter_view(Mode::Unfiltered)?;
+    /// assert_eq!(view, [16; 16]);
+    /// assert_eq!(wrapped, Wrapped::No);
     /// # Ok::<(), lapped::Refusal>(())
     /// ```
     ///
     /// # Errors
     ///
     /// [`Refusal::DcLength`] or [`Refusal::LowPassLength`] if a plane does not fit the size.
-    pub fn to_quarter_view(&self, mode: Mode) -> Result<Vec<i32>, Refusal> {
+    pub fn to_quarter_view(&self, mode: Mode) -> Result<(Vec<i32>, Wrapped), Refusal> {
         let mut view = vec![0; self.size.view_samples()];
-        quarter_view(mode, self.size, self.as_ref(), &mut view)?;
-        Ok(view)
+        let wrapped = quarter_view(mode, self.size, self.as_ref(), &mut view)?;
+        Ok((view, wrapped))
     }
 
     /// The levels of these coefficients, in planes of the same size.

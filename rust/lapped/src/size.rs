@@ -165,7 +165,8 @@ impl Size {
     /// let size = Size::new(2, 1)?;
     /// let mut planes = Planes::zeroed(size);
     /// planes.dc[1] = 64; // the second macroblock, alone in mode 0
-    /// for row in size.view_rows(&planes.to_quarter_view(Mode::Unfiltered)?)? {
+    /// let (view, _) = planes.to_quarter_view(Mode::Unfiltered)?;
+    /// for row in size.view_rows(&view)? {
     ///     assert_eq!(row, [0, 0, 0, 0, 16, 16, 16, 16]);
     /// }
     /// # Ok::<(), lapped::Refusal>(())

@@ -1,17 +1,19 @@
 //! The transform in both directions and the quarter view, in memory that the caller lends.
 
-use crate::{Mode, PlanesMut, PlanesRef, Refusal, Size};
+use crate::{Mode, PlanesMut, PlanesRef, Refusal, Size, Wrapped};
 
-/// From coefficient planes to samples, in raster order over the whole picture.
+/// From coefficient planes to samples, in raster order over the whole picture. Tells whether a sum
+/// wrapped.
 ///
 /// ```
-/// use lapped::{inverse, Mode, Planes, Size};
+/// use lapped::{inverse, Mode, Planes, Size, Wrapped};
 ///
 /// let size = Size::new(2, 1)?;
 /// let mut planes = Planes::zeroed(size);
 /// planes.dc[1] = 64; // the second macroblock, alone in mode 0
 /// let mut samples = vec![0; size.samples()];
-/// inverse(Mode::Unfiltered, size, planes.as_ref(), &mut samples)?;
+/// let wrapped = inverse(Mode::Unfiltered, size, planes.as_ref(), &mut samples)?;
+/// assert_eq!(wrapped, Wrapped::No);
 /// for row in size.rows(&samples)? {
 ///     assert_eq!(row, [[0; 16], [4; 16]].concat());
 /// }
@@ -27,12 +29,13 @@ pub fn inverse(
     size: Size,
     planes: PlanesRef,
     samples: &mut [i32],
-) -> Result<(), Refusal> {
+) -> Result<Wrapped, Refusal> {
     let PlanesRef { dc, low, high } = planes;
-    Refusal::answer(call!(lapped_inverse(mode.number(), size.raw()); dc, low, high; samples))
+    Wrapped::answer(call!(lapped_inverse(mode.number(), size.raw()); dc, low, high; samples))
 }
 
-/// From samples to coefficient planes; undoes [`inverse`] exactly, and is undone by it.
+/// From samples to coefficient planes; undoes [`inverse`] exactly, and is undone by it. Tells whether a
+/// sum wrapped.
 ///
 /// ```
 /// use lapped::{forward, inverse, Mode, Planes, Size};
@@ -40,10 +43,10 @@ pub fn inverse(
 /// let size = Size::new(1, 2)?;
 /// let samples: Vec<i32> = (0..512).collect();
 /// let mut planes = Planes::zeroed(size);
-/// forward(Mode::SampleLevel, size, &samples, planes.as_mut())?;
+/// let wrapped = forward(Mode::SampleLevel, size, &samples, planes.as_mut())?;
 ///
 /// let mut back = vec![0; size.samples()];
-/// inverse(Mode::SampleLevel, size, planes.as_ref(), &mut back)?;
+/// assert_eq!(inverse(Mode::SampleLevel, size, planes.as_ref(), &mut back)?, wrapped);
 /// assert_eq!(back, samples);
 /// # Ok::<(), lapped::Refusal>(())
 /// ```
@@ -52,14 +55,20 @@ pub fn inverse(
 ///
 /// [`Refusal::SamplesLength`], [`Refusal::DcLength`], [`Refusal::LowPassLength`] and
 /// [`Refusal::HighPassLength`], in this order, for a slice that does not fit the size.
-pub fn forward(mode: Mode, size: Size, samples: &[i32], planes: PlanesMut) -> Result<(), Refusal> {
+pub fn forward(
+    mode: Mode,
+    size: Size,
+    samples: &[i32],
+    planes: PlanesMut,
+) -> Result<Wrapped, Refusal> {
     let PlanesMut { dc, low, high } = planes;
-    Refusal::answer(call!(lapped_forward(mode.number(), size.raw()); samples; dc, low, high))
+    Wrapped::answer(call!(lapped_forward(mode.number(), size.raw()); samples; dc, low, high))
 }
 
 /// The picture at a quarter of its width and height, from the DC and low-pass planes alone.
 ///
-/// The high-pass plane is not looked at, and may be empty.
+/// The high-pass plane is not looked at, and may be empty. The view is made by the first of the
+/// transform's two levels, and of that one it tells whether a sum wrapped.
 ///
 /// ```
 /// use lapped::{quarter_view, Mode, PlanesRef, Size};
@@ -81,7 +90,7 @@ pub fn quarter_view(
     size: Size,
     planes: PlanesRef,
     view: &mut [i32],
-) -> Result<(), Refusal> {
+) -> Result<Wrapped, Refusal> {
     let PlanesRef { dc, low, .. } = planes;
-    Refusal::answer(call!(lapped_quarter(mode.number(), size.raw()); dc, low; view))
+    Wrapped::answer(call!(lapped_quarter(mode.number(), size.raw()); dc, low; view))
 }

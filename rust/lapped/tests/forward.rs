@@ -1,33 +1,41 @@
 //! The forward call against the reference, and round trips both ways.
 
 mod common;
-use common::refusals::Operation;
+use common::refusals::{number_of, Operation};
 use common::*;
-use lapped::{Mode, Size};
+use lapped::{Mode, Size, Wrapped};
 use reference::random::{Random, Values};
 
-/// Calls the library on lent memory, and checks that it only wrote the planes.
-fn forward(mode: Mode, size: Size, samples: &[i32], random: &mut Random) -> [Vec<i32>; 3] {
+/// Calls the library on lent memory, and checks that it only wrote the planes. Gives these and whether
+/// a sum wrapped.
+fn forward(
+    mode: Mode,
+    size: Size,
+    samples: &[i32],
+    random: &mut Random,
+) -> ([Vec<i32>; 3], Wrapped) {
     let n = samples.len() / 256;
     let samples = lend_numbers(random, samples);
     let mut planes = [n, 15 * n, 240 * n].map(|count| lend_filled(random, count));
-    let answer = lapped::forward(mode, size, samples.slice(), lent_mut(&mut planes));
-    assert_eq!(answer, Ok(()), "{mode:?}, {size:?}");
+    let wrapped = lapped::forward(mode, size, samples.slice(), lent_mut(&mut planes)).unwrap();
     samples.assert_unchanged("samples");
-    planes.map(|plane| {
+    let planes = planes.map(|plane| {
         let result = plane.slice().to_vec();
         plane.assert_holds(&result, "a plane");
         result
-    })
+    });
+    (planes, wrapped)
 }
 
 fn assert_agrees(mode: Mode, size: Size, samples: &[i32], random: &mut Random) {
     let n = samples.len() / 256;
     let mut expected = [vec![0; n], vec![0; 15 * n], vec![0; 240 * n]];
     let [dc, low, high] = &mut expected;
-    reference::forward(mode.number(), reference_size(size), samples, dc, low, high).unwrap();
-    let planes = forward(mode, size, samples, random);
-    assert_planes(&planes, &expected, &format!("{mode:?}, {size:?}"));
+    let told = reference::forward(mode.number(), reference_size(size), samples, dc, low, high);
+    let (planes, wrapped) = forward(mode, size, samples, random);
+    let what = format!("{mode:?}, {size:?}");
+    assert_planes(&planes, &expected, &what);
+    assert_eq!(Ok(wrapped.is_yes()), told, "{what}: whether a sum wrapped");
 }
 
 #[test]
@@ -42,13 +50,13 @@ fn random_pictures_and_round_trips() {
                 let samples = random.numbers(256 * n, values);
                 assert_agrees(mode, shape, &samples, &mut random);
 
-                let planes = forward(mode, shape, &samples, &mut random);
+                let (planes, _) = forward(mode, shape, &samples, &mut random);
                 let back = samples_of(mode, shape, &planes);
                 assert_same(&back, &samples, &format!("{what}, inverse of forward"));
 
                 let planes = random_planes(&mut random, n, values);
                 let samples = samples_of(mode, shape, &planes);
-                let back = forward(mode, shape, &samples, &mut random);
+                let (back, _) = forward(mode, shape, &samples, &mut random);
                 assert_planes(&back, &planes, &format!("{what}, forward of inverse"));
             }
         }
@@ -65,9 +73,9 @@ fn largest_picture() {
 const FORWARD: Operation<4> = Operation {
     checks: &[1, 2, 3, 7, 4, 5, 6],
     lent: [7, 4, 5, 6],
-    library: |a, slices, _| raw::forward(a.mode, a.size, slices),
+    library: |a, slices, _| number_of(raw::forward(a.mode, a.size, slices)),
     reference: |a, [samples, dc, low, high], _| {
-        reference::forward(a.mode, a.reference_size(), samples, dc, low, high)
+        reference::forward(a.mode, a.reference_size(), samples, dc, low, high).map(|_| ())
     },
 };
 

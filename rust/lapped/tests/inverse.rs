@@ -1,37 +1,45 @@
 //! The inverse call against the reference and the values of 01.
 
 mod common;
-use common::refusals::{Arguments, Operation};
+use common::refusals::{number_of, Arguments, Operation};
 use common::*;
-use lapped::{Mode, Size};
+use lapped::{Mode, Size, Wrapped};
 use reference::random::{Random, Values};
 
-/// Calls the library on lent memory, and checks that it only wrote the samples.
-fn inverse(mode: Mode, size: Size, planes: &[Vec<i32>; 3], random: &mut Random) -> Vec<i32> {
+/// Calls the library on lent memory, and checks that it only wrote the samples. Gives these and whether
+/// a sum wrapped.
+fn inverse(
+    mode: Mode,
+    size: Size,
+    planes: &[Vec<i32>; 3],
+    random: &mut Random,
+) -> (Vec<i32>, Wrapped) {
     let lent = lend_planes(random, planes);
     let mut samples = lend_filled(random, size.samples());
-    let answer = lapped::inverse(mode, size, lent_ref(&lent), samples.slice_mut());
-    assert_eq!(answer, Ok(()), "{mode:?}, {size:?}");
+    let wrapped = lapped::inverse(mode, size, lent_ref(&lent), samples.slice_mut()).unwrap();
     for plane in lent {
         plane.assert_unchanged("a plane");
     }
     let result = samples.slice().to_vec();
     samples.assert_holds(&result, "samples");
-    result
+    (result, wrapped)
 }
 
 fn assert_agrees(mode: Mode, size: Size, planes: &[Vec<i32>; 3], random: &mut Random) {
     let [dc, low, high] = planes;
     let mut expected = vec![0; 256 * dc.len()];
-    reference::inverse(mode.number(), reference_size(size), dc, low, high, &mut expected).unwrap();
-    let samples = inverse(mode, size, planes, random);
-    assert_same(&samples, &expected, &format!("{mode:?}, {size:?}"));
+    let told =
+        reference::inverse(mode.number(), reference_size(size), dc, low, high, &mut expected);
+    let (samples, wrapped) = inverse(mode, size, planes, random);
+    let what = format!("{mode:?}, {size:?}");
+    assert_same(&samples, &expected, &what);
+    assert_eq!(Ok(wrapped.is_yes()), told, "{what}: whether a sum wrapped");
 }
 
 #[test]
 fn dc_one_gives_nine_ones() {
     let planes = [vec![1], vec![0; 15], vec![0; 240]];
-    let samples = inverse(Mode::Unfiltered, size(1, 1), &planes, &mut Random::new(1));
+    let (samples, wrapped) = inverse(Mode::Unfiltered, size(1, 1), &planes, &mut Random::new(1));
     let mut expected = [[0; 16]; 16];
     for (block_row, block_column) in [(0, 1), (1, 0), (1, 1)] {
         for (row, column) in [(0, 1), (1, 0), (1, 1)] {
@@ -39,16 +47,15 @@ fn dc_one_gives_nine_ones() {
         }
     }
     assert_same(&samples, &expected.concat(), "samples");
+    assert_eq!(wrapped, Wrapped::No);
 }
 
 #[test]
 fn dc_64_gives_fours() {
     let planes = [vec![64], vec![0; 15], vec![0; 240]];
-    assert_same(
-        &inverse(Mode::Unfiltered, size(1, 1), &planes, &mut Random::new(1)),
-        &[4; 256],
-        "samples",
-    );
+    let (samples, wrapped) = inverse(Mode::Unfiltered, size(1, 1), &planes, &mut Random::new(1));
+    assert_same(&samples, &[4; 256], "samples");
+    assert_eq!(wrapped, Wrapped::No);
 }
 
 #[test]
@@ -94,9 +101,9 @@ fn largest_picture() {
 const INVERSE: Operation<4> = Operation {
     checks: &[1, 2, 3, 4, 5, 6, 7],
     lent: [4, 5, 6, 7],
-    library: |a, slices, _| raw::inverse(a.mode, a.size, slices),
+    library: |a, slices, _| number_of(raw::inverse(a.mode, a.size, slices)),
     reference: |a, [dc, low, high, samples], _| {
-        reference::inverse(a.mode, a.reference_size(), dc, low, high, samples)
+        reference::inverse(a.mode, a.reference_size(), dc, low, high, samples).map(|_| ())
     },
 };
 

@@ -8,6 +8,7 @@ use common::*;
 use jxrlib::Kernels;
 use lapped::{Mode, Size};
 use reference::level::Grid;
+use reference::number::{plain, Plain};
 use reference::operators::{inverse, Block};
 use reference::random::{Random, Values};
 
@@ -46,14 +47,14 @@ fn numbers(random: &mut Random, count: usize, bits: u32) -> Vec<i32> {
 
 /// What an operator of the reference gives for random numbers is what the kernel gives.
 fn assert_operator<const N: usize>(
-    operator: impl Fn([i32; N]) -> [i32; N],
+    operator: fn([Plain; N]) -> [Plain; N],
     kernel: impl Fn([i32; N]) -> [i32; N],
 ) {
     let mut random = Random::new(71);
     for bits in [1, 3, 8, 16, 26] {
         for _ in 0..20_000 {
             let numbers: [i32; N] = numbers(&mut random, N, bits).try_into().unwrap();
-            assert_eq!(operator(numbers), kernel(numbers), "of {numbers:?}");
+            assert_eq!(plain(operator, numbers), kernel(numbers), "of {numbers:?}");
         }
     }
 }

@@ -2,7 +2,7 @@
 
 mod common;
 use common::*;
-use lapped::{Found, Mode, PlaneFile, Planes, Refusal, Steps};
+use lapped::{Found, Mode, PlaneFile, Planes, Refusal, Steps, Wrapped};
 use reference::random::{Random, Values};
 use reference::{find_step, step_sizes};
 
@@ -23,20 +23,23 @@ fn results_are_those_of_the_reference() {
             let (number, plain_size) = (mode.number(), reference_size(*size));
 
             let mut samples = vec![0; size.samples()];
-            reference::inverse(number, plain_size, dc, low, high, &mut samples).unwrap();
-            assert_same(&planes.to_samples(mode).unwrap(), &samples, &what);
-            assert_eq!(Planes::from_samples(mode, *size, &samples).as_ref(), Ok(&planes), "{what}");
+            let told = reference::inverse(number, plain_size, dc, low, high, &mut samples).unwrap();
+            let samples = (samples, Wrapped::from(told));
+            assert_eq!(planes.to_samples(mode).as_ref(), Ok(&samples), "{what}");
+            let back = Planes::from_samples(mode, *size, &samples.0);
+            assert_eq!(back, Ok((planes.clone(), samples.1)), "{what}");
 
             let mut view = vec![0; size.view_samples()];
-            reference::quarter_view(number, plain_size, dc, low, &mut view).unwrap();
-            assert_same(&planes.to_quarter_view(mode).unwrap(), &view, &what);
+            let told = reference::quarter_view(number, plain_size, dc, low, &mut view).unwrap();
+            let view = (view, Wrapped::from(told));
+            assert_eq!(planes.to_quarter_view(mode).as_ref(), Ok(&view), "{what}");
 
             let mut bytes = vec![0; size.file_bytes()];
             reference::plane_file::save(number, plain_size, dc, low, high, &mut bytes).unwrap();
             let file = PlaneFile { mode, planes };
             assert_same(&file.to_bytes().unwrap(), &bytes, &what);
-            assert_same(&file.to_samples().unwrap(), &samples, &what);
-            assert_same(&file.to_quarter_view().unwrap(), &view, &what);
+            assert_eq!(file.to_samples(), Ok(samples), "{what}");
+            assert_eq!(file.to_quarter_view(), Ok(view), "{what}");
             assert_eq!(PlaneFile::from_bytes(&bytes), Ok(file), "{what}");
         }
     }

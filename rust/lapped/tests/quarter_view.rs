@@ -1,9 +1,9 @@
 //! The quarter view against the reference.
 
 mod common;
-use common::refusals::Operation;
+use common::refusals::{number_of, Operation};
 use common::*;
-use lapped::{Mode, PlanesRef};
+use lapped::{Mode, PlanesRef, Wrapped};
 use reference::random::{Random, Values};
 
 #[test]
@@ -18,13 +18,13 @@ fn random_pictures() {
                 let [dc, low] = [n, 15 * n].map(|count| random.numbers(count, values));
                 let mut expected = vec![0; 16 * n];
                 let (number, size) = (mode.number(), reference_size(shape));
-                reference::quarter_view(number, size, &dc, &low, &mut expected).unwrap();
+                let told = reference::quarter_view(number, size, &dc, &low, &mut expected).unwrap();
 
                 let [dc, low] = [dc, low].map(|plane| lend_numbers(&mut random, &plane));
                 let mut view = lend_filled(&mut random, 16 * n);
                 let planes = PlanesRef { dc: dc.slice(), low: low.slice(), high: &[] };
                 let answer = lapped::quarter_view(mode, shape, planes, view.slice_mut());
-                assert_eq!(answer, Ok(()), "{what}");
+                assert_eq!(answer, Ok(Wrapped::from(told)), "{what}: whether a sum wrapped");
                 view.assert_holds(&expected, &what);
                 dc.assert_unchanged(&what);
                 low.assert_unchanged(&what);
@@ -36,9 +36,9 @@ fn random_pictures() {
 const QUARTER_VIEW: Operation<3> = Operation {
     checks: &[1, 2, 3, 4, 5, 8],
     lent: [4, 5, 8],
-    library: |a, slices, _| raw::quarter(a.mode, a.size, slices),
+    library: |a, slices, _| number_of(raw::quarter(a.mode, a.size, slices)),
     reference: |a, [dc, low, view], _| {
-        reference::quarter_view(a.mode, a.reference_size(), dc, low, view)
+        reference::quarter_view(a.mode, a.reference_size(), dc, low, view).map(|_| ())
     },
 };
 

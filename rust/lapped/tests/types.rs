@@ -1,14 +1,14 @@
 //! Modes, sizes and refusals: that the wrapper draws its lines where the library does.
 
 mod common;
-use common::refusals::{bad_sides, BAD_MODES};
+use common::refusals::{bad_sides, number_of, BAD_MODES};
 use common::*;
-use lapped::{Mode, Planes, PlanesMut, PlanesRef, Refusal, Size};
+use lapped::{Mode, Planes, PlanesMut, PlanesRef, Refusal, Size, Wrapped};
 use std::collections::HashSet;
 
 /// The library's answer to this mode and size with nothing lent: 4 says that both passed.
 fn library_answer(mode: u32, width: u32, height: u32) -> u32 {
-    raw::quarter(mode, raw_size(width, height), [&mut [], &mut [], &mut []])
+    number_of(raw::quarter(mode, raw_size(width, height), [&mut [], &mut [], &mut []]))
 }
 
 /// The number that a value of the wrapper is refused with, or 4 like the library's.
@@ -90,6 +90,17 @@ fn rows_of_a_picture() {
     }
 }
 
+/// A yes is a yes from C to words.
+#[test]
+fn yes_and_no() {
+    for (wrapped, expected, words) in
+        [(Wrapped::No, false, "no sum wrapped"), (Wrapped::Yes, true, "a sum wrapped")]
+    {
+        assert_eq!((Wrapped::from(expected), bool::from(wrapped)), (wrapped, expected));
+        assert_eq!((wrapped.is_yes(), wrapped.to_string().as_str()), (expected, words));
+    }
+}
+
 /// Which slice has a wrong length is told by the name of the refusal.
 #[test]
 fn lent_slices_of_wrong_lengths() {
@@ -104,7 +115,7 @@ fn lent_slices_of_wrong_lengths() {
         assert_eq!(lapped::inverse(mode, shape, planes, &mut samples), Err(name));
         assert_eq!(lapped::save(mode, shape, planes, &mut [0; 2080]), Err(name));
         // The view asks nothing of the high-pass plane.
-        let expected = if wrong == 2 { Ok(()) } else { Err(name) };
+        let expected = if wrong == 2 { Ok(Wrapped::No) } else { Err(name) };
         assert_eq!(lapped::quarter_view(mode, shape, planes, &mut view), expected);
         let planes = PlanesMut { dc: &mut dc, low: &mut low, high: &mut high };
         assert_eq!(lapped::forward(mode, shape, &samples, planes), Err(name));

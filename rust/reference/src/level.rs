@@ -1,5 +1,6 @@
 //! One level of the transform on a grid of numbers (01, "One level").
 
+use crate::number::{by, Number};
 use crate::operators::{forward, inverse, Block};
 
 /// A grid in raster order whose sides are multiples of 4.
@@ -33,7 +34,12 @@ impl<'a> Grid<'a> {
     }
 
     /// Replaces the four cells `start`, `start + step`, … by what `operator` makes of them.
-    fn map_four(&mut self, start: usize, step: usize, operator: impl Fn([i32; 4]) -> [i32; 4]) {
+    fn map_four(
+        &mut self,
+        start: usize,
+        step: usize,
+        operator: &mut impl FnMut([i32; 4]) -> [i32; 4],
+    ) {
         let places = [start, start + step, start + 2 * step, start + 3 * step];
         let results = operator(places.map(|place| self.cells[place]));
         for (place, result) in places.into_iter().zip(results) {
@@ -46,8 +52,8 @@ impl<'a> Grid<'a> {
     /// The windows are disjoint, so one order serves both directions.
     pub fn filter(
         &mut self,
-        square_filter: impl Fn(Block) -> Block,
-        four_filter: impl Fn([i32; 4]) -> [i32; 4],
+        mut square_filter: impl FnMut(Block) -> Block,
+        mut four_filter: impl FnMut([i32; 4]) -> [i32; 4],
     ) {
         let (width, height) = (self.width, self.height);
         // A window that starts at 2, 6, … lies inside as long as its start is below side - 3.
@@ -59,39 +65,79 @@ impl<'a> Grid<'a> {
         }
         for row in [0, 1, height - 2, height - 1] {
             for column in (2..width - 3).step_by(4) {
-                self.map_four(row * width + column, 1, &four_filter);
+                self.map_four(row * width + column, 1, &mut four_filter);
             }
         }
         for column in [0, 1, width - 2, width - 1] {
             for row in (2..height - 3).step_by(4) {
-                self.map_four(row * width + column, width, &four_filter);
+                self.map_four(row * width + column, width, &mut four_filter);
             }
         }
+    }
+
+    /// The filters of a level by operators on numbers of any kind. Gives whether a sum wrapped.
+    fn filter_by<N: Number>(
+        &mut self,
+        square_filter: fn([N; 16]) -> [N; 16],
+        four_filter: fn([N; 4]) -> [N; 4],
+    ) -> bool {
+        let (mut in_squares, mut in_fours) = (false, false);
+        self.filter(
+            |square| telling(square_filter, square, &mut in_squares),
+            |four| telling(four_filter, four, &mut in_fours),
+        );
+        in_squares || in_fours
     }
 
     /// The inverse of a level: the core transform of every block, then the filters.
-    /// `coefficients(i, j)` are those of the block in block row i and block column j.
-    pub fn inverse(&mut self, filtered: bool, coefficients: impl Fn(usize, usize) -> Block) {
+    /// `coefficients(i, j)` are those of the block in block row i and block column j. Gives whether a
+    /// sum wrapped.
+    pub fn inverse<N: Number>(
+        &mut self,
+        filtered: bool,
+        coefficients: impl Fn(usize, usize) -> Block,
+    ) -> bool {
+        let mut wrapped = false;
         for i in 0..self.height / 4 {
             for j in 0..self.width / 4 {
-                self.set_square(4 * i, 4 * j, inverse::core(coefficients(i, j)));
+                let samples = telling(inverse::core::<N>, coefficients(i, j), &mut wrapped);
+                self.set_square(4 * i, 4 * j, samples);
             }
         }
         if filtered {
-            self.filter(inverse::overlap_square, inverse::overlap_four);
+            wrapped |= self.filter_by::<N>(inverse::overlap_square, inverse::overlap_four);
         }
+        wrapped
     }
 
     /// The forward direction of a level: the filters undone, then the core transform of every block.
-    /// `store(i, j, coefficients)` receives those of the block in block row i and block column j.
-    pub fn forward(&mut self, filtered: bool, mut store: impl FnMut(usize, usize, Block)) {
+    /// `store(i, j, coefficients)` receives those of the block in block row i and block column j. Gives
+    /// whether a sum wrapped.
+    pub fn forward<N: Number>(
+        &mut self,
+        filtered: bool,
+        mut store: impl FnMut(usize, usize, Block),
+    ) -> bool {
+        let mut wrapped = false;
         if filtered {
-            self.filter(forward::overlap_square, forward::overlap_four);
+            wrapped |= self.filter_by::<N>(forward::overlap_square, forward::overlap_four);
         }
         for i in 0..self.height / 4 {
             for j in 0..self.width / 4 {
-                store(i, j, forward::core(self.square(4 * i, 4 * j)));
+                store(i, j, telling(forward::core::<N>, self.square(4 * i, 4 * j), &mut wrapped));
             }
         }
+        wrapped
     }
+}
+
+/// What an operator makes of these numbers; `wrapped` is set if a sum wrapped in it.
+fn telling<N: Number, const K: usize>(
+    operator: impl Fn([N; K]) -> [N; K],
+    numbers: [i32; K],
+    wrapped: &mut bool,
+) -> [i32; K] {
+    let (results, in_it) = by(operator, numbers);
+    *wrapped |= in_it;
+    results
 }

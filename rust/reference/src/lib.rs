@@ -8,6 +8,7 @@
 pub mod find_step;
 pub mod forecast;
 pub mod level;
+pub mod number;
 pub mod operators;
 pub mod picture;
 pub mod plane_file;

@@ -1,8 +1,10 @@
 //! The operators of Figures 4.4 to 4.14, in both directions.
 //!
 //! `inverse` holds the figures as printed. `forward` holds the same lines from last to first, each
-//! undone. `Wrapping` reduces every sum, difference, negation and product into the signed 32-bit
-//! range, and its `>>` rounds toward minus infinity, so that the lines read as in the figures.
+//! undone. A `Number` reduces every sum, difference, negation and product into the signed 32-bit range,
+//! so that the lines read as in the figures, whether or not it tells that the reduction changed one.
+
+use crate::number::Number;
 
 /// A 4 × 4 block: coefficient or sample k is row k div 4, column k mod 4.
 pub type Block = [i32; 16];
@@ -14,151 +16,142 @@ pub const INVERSE_REORDER: [usize; 16] = [0, 8, 4, 13, 2, 15, 3, 14, 1, 12, 5, 9
 pub const FORWARD_REORDER: [usize; 16] = [0, 8, 4, 6, 2, 10, 14, 12, 1, 11, 15, 13, 9, 3, 7, 5];
 
 #[inline]
-fn reorder(block: Block, places: &[usize; 16]) -> Block {
-    let mut reordered = [0; 16];
+fn reorder<N: Number>(block: [N; 16], places: &[usize; 16]) -> [N; 16] {
+    let mut reordered = block;
     for (number, &place) in block.into_iter().zip(places) {
         reordered[place] = number;
     }
     reordered
 }
 
-const ONE: std::num::Wrapping<i32> = std::num::Wrapping(1);
-const TWO: std::num::Wrapping<i32> = std::num::Wrapping(2);
-const THREE: std::num::Wrapping<i32> = std::num::Wrapping(3);
-const FOUR: std::num::Wrapping<i32> = std::num::Wrapping(4);
-const SIX: std::num::Wrapping<i32> = std::num::Wrapping(6);
-const EIGHT: std::num::Wrapping<i32> = std::num::Wrapping(8);
-const SIXTEEN: std::num::Wrapping<i32> = std::num::Wrapping(16);
-
 /// The operators as the figures print them: from coefficients towards samples.
 pub mod inverse {
     use super::*;
-    use std::num::Wrapping;
 
     /// Figure 4.4.
-    pub fn hadamard(numbers: [i32; 4], r: i32) -> [i32; 4] {
-        let [mut a, mut b, mut c, mut d] = numbers.map(Wrapping);
+    pub fn hadamard<N: Number>(numbers: [N; 4], r: i32) -> [N; 4] {
+        let [mut a, mut b, mut c, mut d] = numbers;
         a += d;
         b -= c;
-        let t1 = (a - b + Wrapping(r)) >> 1;
+        let t1 = (a - b + r) >> 1;
         let t2 = c;
         c = t1 - d;
         d = t1 - t2;
         a -= d;
         b += c;
-        [a.0, b.0, c.0, d.0]
+        [a, b, c, d]
     }
 
     /// Figure 4.5.
-    pub fn odd(numbers: [i32; 4]) -> [i32; 4] {
-        let [mut a, mut b, mut c, mut d] = numbers.map(Wrapping);
+    pub fn odd<N: Number>(numbers: [N; 4]) -> [N; 4] {
+        let [mut a, mut b, mut c, mut d] = numbers;
         b += d;
         a -= c;
         d -= b >> 1;
-        c += (a + ONE) >> 1;
-        a -= (THREE * b + FOUR) >> 3;
-        b += (THREE * a + FOUR) >> 3;
-        c -= (THREE * d + FOUR) >> 3;
-        d += (THREE * c + FOUR) >> 3;
-        c -= (b + ONE) >> 1;
-        d = ((a + ONE) >> 1) - d;
+        c += (a + 1) >> 1;
+        a -= (b * 3 + 4) >> 3;
+        b += (a * 3 + 4) >> 3;
+        c -= (d * 3 + 4) >> 3;
+        d += (c * 3 + 4) >> 3;
+        c -= (b + 1) >> 1;
+        d = ((a + 1) >> 1) - d;
         b += c;
         a -= d;
-        [a.0, b.0, c.0, d.0]
+        [a, b, c, d]
     }
 
     /// Figure 4.6.
-    pub fn odd_odd(numbers: [i32; 4]) -> [i32; 4] {
-        let [mut a, mut b, mut c, mut d] = numbers.map(Wrapping);
+    pub fn odd_odd<N: Number>(numbers: [N; 4]) -> [N; 4] {
+        let [mut a, mut b, mut c, mut d] = numbers;
         d += a;
         c -= b;
         let t1 = d >> 1;
         let t2 = c >> 1;
         a -= t1;
         b += t2;
-        a -= (b * THREE + THREE) >> 3;
-        b += (a * THREE + THREE) >> 2;
-        a -= (b * THREE + FOUR) >> 3;
+        a -= (b * 3 + 3) >> 3;
+        b += (a * 3 + 3) >> 2;
+        a -= (b * 3 + 4) >> 3;
         b -= t2;
         a += t1;
         c += b;
         d -= a;
         b = -b;
         c = -c;
-        [a.0, b.0, c.0, d.0]
+        [a, b, c, d]
     }
 
     /// Figure 4.9.
-    pub fn rotation(numbers: [i32; 2]) -> [i32; 2] {
-        let [mut a, mut b] = numbers.map(Wrapping);
-        a -= (b + ONE) >> 1;
-        b += (a + ONE) >> 1;
-        [a.0, b.0]
+    pub fn rotation<N: Number>(numbers: [N; 2]) -> [N; 2] {
+        let [mut a, mut b] = numbers;
+        a -= (b + 1) >> 1;
+        b += (a + 1) >> 1;
+        [a, b]
     }
 
     /// Figure 4.10.
-    pub fn scale(numbers: [i32; 2]) -> [i32; 2] {
-        let [mut a, mut b] = numbers.map(Wrapping);
+    pub fn scale<N: Number>(numbers: [N; 2]) -> [N; 2] {
+        let [mut a, mut b] = numbers;
         a += b;
         b = (a >> 1) - b;
-        a += (b * THREE) >> 3;
-        b += (a * THREE) >> 4;
-        [a.0, b.0]
+        a += (b * 3) >> 3;
+        b += (a * 3) >> 4;
+        [a, b]
     }
 
     /// Figure 4.11.
-    pub fn post_hadamard(numbers: [i32; 4]) -> [i32; 4] {
-        let [mut a, mut b, mut c, mut d] = numbers.map(Wrapping);
+    pub fn post_hadamard<N: Number>(numbers: [N; 4]) -> [N; 4] {
+        let [mut a, mut b, mut c, mut d] = numbers;
         b -= c;
-        a += (d * THREE + FOUR) >> 3;
+        a += (d * 3 + 4) >> 3;
         d -= b >> 1;
         c = ((a - b) >> 1) - c;
         std::mem::swap(&mut c, &mut d);
         a -= d;
         b += c;
-        [a.0, b.0, c.0, d.0]
+        [a, b, c, d]
     }
 
     /// Figure 4.12.
-    pub fn post_odd_odd(numbers: [i32; 4]) -> [i32; 4] {
-        let [mut a, mut b, mut c, mut d] = numbers.map(Wrapping);
+    pub fn post_odd_odd<N: Number>(numbers: [N; 4]) -> [N; 4] {
+        let [mut a, mut b, mut c, mut d] = numbers;
         d += a;
         c -= b;
         let t1 = d >> 1;
         let t2 = c >> 1;
         a -= t1;
         b += t2;
-        a -= (b * THREE + SIX) >> 3;
-        b += (a * THREE + TWO) >> 2;
-        a -= (b * THREE + FOUR) >> 3;
+        a -= (b * 3 + 6) >> 3;
+        b += (a * 3 + 2) >> 2;
+        a -= (b * 3 + 4) >> 3;
         b -= t2;
         a += t1;
         c += b;
         d -= a;
-        [a.0, b.0, c.0, d.0]
+        [a, b, c, d]
     }
 
     /// Figure 4.13, the overlap filter of four numbers along an edge.
-    pub fn overlap_four(numbers: [i32; 4]) -> [i32; 4] {
-        let [mut a, mut b, mut c, mut d] = numbers.map(Wrapping);
+    pub fn overlap_four<N: Number>(numbers: [N; 4]) -> [N; 4] {
+        let [mut a, mut b, mut c, mut d] = numbers;
         a += d;
         b += c;
-        d -= (a + ONE) >> 1;
-        c -= (b + ONE) >> 1;
-        [c, d] = rotation([c.0, d.0]).map(Wrapping);
-        d += (a + ONE) >> 1;
-        c += (b + ONE) >> 1;
-        a -= d - ((d * THREE + SIXTEEN) >> 5);
-        b -= c - ((c * THREE + SIXTEEN) >> 5);
-        d += (a * THREE + EIGHT) >> 4;
-        c += (b * THREE + EIGHT) >> 4;
-        a += (d * THREE + SIXTEEN) >> 5;
-        b += (c * THREE + SIXTEEN) >> 5;
-        [a.0, b.0, c.0, d.0]
+        d -= (a + 1) >> 1;
+        c -= (b + 1) >> 1;
+        [c, d] = rotation([c, d]);
+        d += (a + 1) >> 1;
+        c += (b + 1) >> 1;
+        a -= d - ((d * 3 + 16) >> 5);
+        b -= c - ((c * 3 + 16) >> 5);
+        d += (a * 3 + 8) >> 4;
+        c += (b * 3 + 8) >> 4;
+        a += (d * 3 + 16) >> 5;
+        b += (c * 3 + 16) >> 5;
+        [a, b, c, d]
     }
 
     /// Figure 4.8, the core transform. The reorder stands in for the drawing of Figure 4.7.
-    pub fn core(coefficients: Block) -> Block {
+    pub fn core<N: Number>(coefficients: [N; 16]) -> [N; 16] {
         let mut v = reorder(coefficients, &INVERSE_REORDER);
         [v[0], v[1], v[4], v[5]] = hadamard([v[0], v[1], v[4], v[5]], 1);
         [v[2], v[3], v[6], v[7]] = odd([v[2], v[3], v[6], v[7]]);
@@ -174,7 +167,7 @@ pub mod inverse {
     /// Figure 4.14, the overlap filter of a 4 × 4 square. Its calls of Figure 4.11 carry a fifth
     /// argument, 0, which that figure does not take.
     #[rustfmt::skip]
-    pub fn overlap_square(square: Block) -> Block {
+    pub fn overlap_square<N: Number>(square: [N; 16]) -> [N; 16] {
         let [mut a, mut b, mut c, mut d,
              mut e, mut f, mut g, mut h,
              mut i, mut j, mut k, mut l,
@@ -206,44 +199,43 @@ pub mod inverse {
 /// The same operators undone, line by line from last to first: from samples towards coefficients.
 pub mod forward {
     use super::*;
-    use std::num::Wrapping;
 
     /// Figure 4.4 undone.
-    pub fn hadamard(numbers: [i32; 4], r: i32) -> [i32; 4] {
-        let [mut a, mut b, mut c, mut d] = numbers.map(Wrapping);
+    pub fn hadamard<N: Number>(numbers: [N; 4], r: i32) -> [N; 4] {
+        let [mut a, mut b, mut c, mut d] = numbers;
         b -= c;
         a += d;
         // a and b are again what t1 was made of, so t1 can be made again.
-        let t1 = (a - b + Wrapping(r)) >> 1;
+        let t1 = (a - b + r) >> 1;
         let t2 = t1 - d;
         d = t1 - c;
         c = t2;
         b += c;
         a -= d;
-        [a.0, b.0, c.0, d.0]
+        [a, b, c, d]
     }
 
     /// Figure 4.5 undone.
-    pub fn odd(numbers: [i32; 4]) -> [i32; 4] {
-        let [mut a, mut b, mut c, mut d] = numbers.map(Wrapping);
+    pub fn odd<N: Number>(numbers: [N; 4]) -> [N; 4] {
+        let [mut a, mut b, mut c, mut d] = numbers;
         a += d;
         b -= c;
-        d = ((a + ONE) >> 1) - d;
-        c += (b + ONE) >> 1;
-        d -= (THREE * c + FOUR) >> 3;
-        c += (THREE * d + FOUR) >> 3;
-        b -= (THREE * a + FOUR) >> 3;
-        a += (THREE * b + FOUR) >> 3;
-        c -= (a + ONE) >> 1;
+        d = ((a + 1) >> 1) - d;
+        c += (b + 1) >> 1;
+        d -= (c * 3 + 4) >> 3;
+        c += (d * 3 + 4) >> 3;
+        b -= (a * 3 + 4) >> 3;
+        a += (b * 3 + 4) >> 3;
+        c -= (a + 1) >> 1;
         d += b >> 1;
         a += c;
         b -= d;
-        [a.0, b.0, c.0, d.0]
+        [a, b, c, d]
     }
 
     /// Figure 4.6 undone.
-    pub fn odd_odd(numbers: [i32; 4]) -> [i32; 4] {
-        let [mut a, mut b, mut c, mut d] = numbers.map(Wrapping);
+    pub fn odd_odd<N: Number>(numbers: [N; 4]) -> [N; 4] {
+        let [mut a, mut b, mut c, mut d] = numbers;
         c = -c;
         b = -b;
         d += a;
@@ -253,50 +245,50 @@ pub mod forward {
         let t2 = c >> 1;
         a -= t1;
         b += t2;
-        a += (b * THREE + FOUR) >> 3;
-        b -= (a * THREE + THREE) >> 2;
-        a += (b * THREE + THREE) >> 3;
+        a += (b * 3 + 4) >> 3;
+        b -= (a * 3 + 3) >> 2;
+        a += (b * 3 + 3) >> 3;
         b -= t2;
         a += t1;
         c += b;
         d -= a;
-        [a.0, b.0, c.0, d.0]
+        [a, b, c, d]
     }
 
     /// Figure 4.9 undone.
-    pub fn rotation(numbers: [i32; 2]) -> [i32; 2] {
-        let [mut a, mut b] = numbers.map(Wrapping);
-        b -= (a + ONE) >> 1;
-        a += (b + ONE) >> 1;
-        [a.0, b.0]
+    pub fn rotation<N: Number>(numbers: [N; 2]) -> [N; 2] {
+        let [mut a, mut b] = numbers;
+        b -= (a + 1) >> 1;
+        a += (b + 1) >> 1;
+        [a, b]
     }
 
     /// Figure 4.10 undone.
-    pub fn scale(numbers: [i32; 2]) -> [i32; 2] {
-        let [mut a, mut b] = numbers.map(Wrapping);
-        b -= (a * THREE) >> 4;
-        a -= (b * THREE) >> 3;
+    pub fn scale<N: Number>(numbers: [N; 2]) -> [N; 2] {
+        let [mut a, mut b] = numbers;
+        b -= (a * 3) >> 4;
+        a -= (b * 3) >> 3;
         b = (a >> 1) - b;
         a -= b;
-        [a.0, b.0]
+        [a, b]
     }
 
     /// Figure 4.11 undone.
-    pub fn post_hadamard(numbers: [i32; 4]) -> [i32; 4] {
-        let [mut a, mut b, mut c, mut d] = numbers.map(Wrapping);
+    pub fn post_hadamard<N: Number>(numbers: [N; 4]) -> [N; 4] {
+        let [mut a, mut b, mut c, mut d] = numbers;
         b -= c;
         a += d;
         std::mem::swap(&mut c, &mut d);
         c = ((a - b) >> 1) - c;
         d += b >> 1;
-        a -= (d * THREE + FOUR) >> 3;
+        a -= (d * 3 + 4) >> 3;
         b += c;
-        [a.0, b.0, c.0, d.0]
+        [a, b, c, d]
     }
 
     /// Figure 4.12 undone.
-    pub fn post_odd_odd(numbers: [i32; 4]) -> [i32; 4] {
-        let [mut a, mut b, mut c, mut d] = numbers.map(Wrapping);
+    pub fn post_odd_odd<N: Number>(numbers: [N; 4]) -> [N; 4] {
+        let [mut a, mut b, mut c, mut d] = numbers;
         d += a;
         c -= b;
         // c and d are again what t1 and t2 were made of.
@@ -304,37 +296,37 @@ pub mod forward {
         let t2 = c >> 1;
         a -= t1;
         b += t2;
-        a += (b * THREE + FOUR) >> 3;
-        b -= (a * THREE + TWO) >> 2;
-        a += (b * THREE + SIX) >> 3;
+        a += (b * 3 + 4) >> 3;
+        b -= (a * 3 + 2) >> 2;
+        a += (b * 3 + 6) >> 3;
         b -= t2;
         a += t1;
         c += b;
         d -= a;
-        [a.0, b.0, c.0, d.0]
+        [a, b, c, d]
     }
 
     /// Figure 4.13 undone.
-    pub fn overlap_four(numbers: [i32; 4]) -> [i32; 4] {
-        let [mut a, mut b, mut c, mut d] = numbers.map(Wrapping);
-        b -= (c * THREE + SIXTEEN) >> 5;
-        a -= (d * THREE + SIXTEEN) >> 5;
-        c -= (b * THREE + EIGHT) >> 4;
-        d -= (a * THREE + EIGHT) >> 4;
-        b += c - ((c * THREE + SIXTEEN) >> 5);
-        a += d - ((d * THREE + SIXTEEN) >> 5);
-        c -= (b + ONE) >> 1;
-        d -= (a + ONE) >> 1;
-        [c, d] = rotation([c.0, d.0]).map(Wrapping);
-        c += (b + ONE) >> 1;
-        d += (a + ONE) >> 1;
+    pub fn overlap_four<N: Number>(numbers: [N; 4]) -> [N; 4] {
+        let [mut a, mut b, mut c, mut d] = numbers;
+        b -= (c * 3 + 16) >> 5;
+        a -= (d * 3 + 16) >> 5;
+        c -= (b * 3 + 8) >> 4;
+        d -= (a * 3 + 8) >> 4;
+        b += c - ((c * 3 + 16) >> 5);
+        a += d - ((d * 3 + 16) >> 5);
+        c -= (b + 1) >> 1;
+        d -= (a + 1) >> 1;
+        [c, d] = rotation([c, d]);
+        c += (b + 1) >> 1;
+        d += (a + 1) >> 1;
         b -= c;
         a -= d;
-        [a.0, b.0, c.0, d.0]
+        [a, b, c, d]
     }
 
     /// Figure 4.8 undone.
-    pub fn core(samples: Block) -> Block {
+    pub fn core<N: Number>(samples: [N; 16]) -> [N; 16] {
         let mut v = samples;
         [v[4], v[7], v[8], v[11]] = hadamard([v[4], v[7], v[8], v[11]], 0);
         [v[1], v[2], v[13], v[14]] = hadamard([v[1], v[2], v[13], v[14]], 0);
@@ -349,7 +341,7 @@ pub mod forward {
 
     /// Figure 4.14 undone.
     #[rustfmt::skip]
-    pub fn overlap_square(square: Block) -> Block {
+    pub fn overlap_square<N: Number>(square: [N; 16]) -> [N; 16] {
         let [mut a, mut b, mut c, mut d,
              mut e, mut f, mut g, mut h,
              mut i, mut j, mut k, mut l,

@@ -1,6 +1,8 @@
-//! Inverse, forward and quarter view over whole pictures, with their checks (01, "Both levels").
+//! Inverse, forward and quarter view over whole pictures, with their checks (01, "Both levels"), and
+//! whether a sum wrapped in them (02, e: "Say when a sum wrapped").
 
 use crate::level::Grid;
+use crate::number::{Number, Telling};
 use crate::operators::Block;
 
 /// The largest width and height of a picture, in macroblocks.
@@ -27,8 +29,8 @@ impl Size {
 
 /// Working memory of the inverse and the forward transform of one size, for callers that time them.
 pub struct Scratch {
-    quarter: Vec<i32>,
-    samples: Vec<i32>,
+    pub quarter: Vec<i32>,
+    pub samples: Vec<i32>,
 }
 
 impl Scratch {
@@ -90,15 +92,21 @@ fn high_pass_start(width: usize, i: usize, j: usize) -> usize {
     (16 * macroblock + block) * 15
 }
 
-fn inverse_level_one(mode: u32, size: Size, dc: &[i32], low: &[i32], grid: &mut [i32]) {
+fn inverse_level_one<N: Number>(
+    mode: u32,
+    size: Size,
+    dc: &[i32],
+    low: &[i32],
+    grid: &mut [i32],
+) -> bool {
     let (width, height) = (size.width as usize, size.height as usize);
-    Grid::new(4 * width, 4 * height, grid).inverse(filters_level_one(mode), |i, j| {
+    Grid::new(4 * width, 4 * height, grid).inverse::<N>(filters_level_one(mode), |i, j| {
         let macroblock = i * width + j;
         block(dc[macroblock], &low[15 * macroblock..15 * macroblock + 15])
-    });
+    })
 }
 
-/// From coefficient planes to samples.
+/// From coefficient planes to samples. Gives whether a sum wrapped.
 pub fn inverse(
     mode: u32,
     size: Size,
@@ -106,29 +114,17 @@ pub fn inverse(
     low: &[i32],
     high: &[i32],
     samples: &mut [i32],
-) -> Result<(), u32> {
+) -> Result<bool, u32> {
     let n = check_mode_and_size(mode, size)?;
     check_planes(n, dc, low, high)?;
     check_length(samples.len(), 256 * n, 7)?;
     let mut quarter = vec![0; 16 * n];
-    inverse_unchecked(mode, size, dc, low, high, samples, &mut quarter);
-    Ok(())
+    Ok(inverse_by::<Telling>(mode, size, dc, low, high, samples, &mut quarter))
 }
 
-/// The inverse of arguments that are known to be right, in working memory of the caller's.
-pub fn inverse_with_scratch(
-    mode: u32,
-    size: Size,
-    dc: &[i32],
-    low: &[i32],
-    high: &[i32],
-    samples: &mut [i32],
-    scratch: &mut Scratch,
-) {
-    inverse_unchecked(mode, size, dc, low, high, samples, &mut scratch.quarter);
-}
-
-fn inverse_unchecked(
+/// The inverse of arguments that are known to be right by numbers of any kind, with 16 n numbers of the
+/// caller's for the quarter view.
+pub fn inverse_by<N: Number>(
     mode: u32,
     size: Size,
     dc: &[i32],
@@ -136,32 +132,33 @@ fn inverse_unchecked(
     high: &[i32],
     samples: &mut [i32],
     quarter: &mut [i32],
-) {
+) -> bool {
     let (width, height) = (size.width as usize, size.height as usize);
-    inverse_level_one(mode, size, dc, low, quarter);
-    Grid::new(16 * width, 16 * height, samples).inverse(filters_level_two(mode), |i, j| {
+    let level_one = inverse_level_one::<N>(mode, size, dc, low, quarter);
+    let mut grid = Grid::new(16 * width, 16 * height, samples);
+    let level_two = grid.inverse::<N>(filters_level_two(mode), |i, j| {
         let start = high_pass_start(width, i, j);
         block(quarter[i * 4 * width + j], &high[start..start + 15])
     });
+    level_one || level_two
 }
 
-/// The quarter view: the grid after level one.
+/// The quarter view: the grid after level one. Gives whether a sum wrapped in this level.
 pub fn quarter_view(
     mode: u32,
     size: Size,
     dc: &[i32],
     low: &[i32],
     view: &mut [i32],
-) -> Result<(), u32> {
+) -> Result<bool, u32> {
     let n = check_mode_and_size(mode, size)?;
     check_length(dc.len(), n, 4)?;
     check_length(low.len(), 15 * n, 5)?;
     check_length(view.len(), 16 * n, 8)?;
-    inverse_level_one(mode, size, dc, low, view);
-    Ok(())
+    Ok(inverse_level_one::<Telling>(mode, size, dc, low, view))
 }
 
-/// From samples to coefficient planes.
+/// From samples to coefficient planes. Gives whether a sum wrapped.
 pub fn forward(
     mode: u32,
     size: Size,
@@ -169,17 +166,17 @@ pub fn forward(
     dc: &mut [i32],
     low: &mut [i32],
     high: &mut [i32],
-) -> Result<(), u32> {
+) -> Result<bool, u32> {
     let n = check_mode_and_size(mode, size)?;
     check_length(samples.len(), 256 * n, 7)?;
     check_planes(n, dc, low, high)?;
     let mut scratch = Scratch::new(size);
-    forward_with_scratch(mode, size, samples, dc, low, high, &mut scratch);
-    Ok(())
+    Ok(forward_by::<Telling>(mode, size, samples, dc, low, high, &mut scratch))
 }
 
-/// The forward transform of arguments that are known to be right, in working memory of the caller's.
-pub fn forward_with_scratch(
+/// The forward transform of arguments that are known to be right by numbers of any kind, in working
+/// memory of the caller's.
+pub fn forward_by<N: Number>(
     mode: u32,
     size: Size,
     samples: &[i32],
@@ -187,25 +184,22 @@ pub fn forward_with_scratch(
     low: &mut [i32],
     high: &mut [i32],
     scratch: &mut Scratch,
-) {
+) -> bool {
     let (width, height) = (size.width as usize, size.height as usize);
     let quarter = &mut scratch.quarter;
     // The filters are undone in place and the samples are only lent for reading: hence the copy.
     scratch.samples.copy_from_slice(samples);
-    Grid::new(16 * width, 16 * height, &mut scratch.samples).forward(
-        filters_level_two(mode),
-        |i, j, coefficients| {
-            let start = high_pass_start(width, i, j);
-            quarter[i * 4 * width + j] = coefficients[0];
-            high[start..start + 15].copy_from_slice(&coefficients[1..]);
-        },
-    );
-    Grid::new(4 * width, 4 * height, quarter).forward(
-        filters_level_one(mode),
-        |i, j, coefficients| {
-            let macroblock = i * width + j;
-            dc[macroblock] = coefficients[0];
-            low[15 * macroblock..15 * macroblock + 15].copy_from_slice(&coefficients[1..]);
-        },
-    );
+    let mut grid = Grid::new(16 * width, 16 * height, &mut scratch.samples);
+    let level_two = grid.forward::<N>(filters_level_two(mode), |i, j, coefficients| {
+        let start = high_pass_start(width, i, j);
+        quarter[i * 4 * width + j] = coefficients[0];
+        high[start..start + 15].copy_from_slice(&coefficients[1..]);
+    });
+    let mut grid = Grid::new(4 * width, 4 * height, quarter);
+    let level_one = grid.forward::<N>(filters_level_one(mode), |i, j, coefficients| {
+        let macroblock = i * width + j;
+        dc[macroblock] = coefficients[0];
+        low[15 * macroblock..15 * macroblock + 15].copy_from_slice(&coefficients[1..]);
+    });
+    level_two || level_one
 }

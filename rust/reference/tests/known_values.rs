@@ -1,6 +1,7 @@
 //! The values that 01 gives, starred and unstarred, and values worked out by hand from the rules of 02,
 //! held against the reference.
 
+use reference::number::plain;
 use reference::operators::inverse as op;
 use reference::operators::{FORWARD_REORDER, INVERSE_REORDER};
 use reference::plane_file::{read_header, save};
@@ -9,37 +10,37 @@ use reference::{inverse, program, quarter_view, Size};
 
 #[test]
 fn two_by_two_hadamard() {
-    assert_eq!(op::hadamard([4, 0, 0, 0], 0), [2, 2, 2, 2]);
-    assert_eq!(op::hadamard([1, 0, 0, 0], 0), [1, 0, 0, 0]);
-    assert_eq!(op::hadamard([-1, 0, 0, 0], 0), [0, -1, -1, -1]);
-    assert_eq!(op::hadamard([1, 0, 0, 0], 1), [0, 1, 1, 1]);
-    assert_eq!(op::hadamard([-1, 0, 0, 0], 1), [-1, 0, 0, 0]);
+    assert_eq!(plain(|v| op::hadamard(v, 0), [4, 0, 0, 0]), [2, 2, 2, 2]);
+    assert_eq!(plain(|v| op::hadamard(v, 0), [1, 0, 0, 0]), [1, 0, 0, 0]);
+    assert_eq!(plain(|v| op::hadamard(v, 0), [-1, 0, 0, 0]), [0, -1, -1, -1]);
+    assert_eq!(plain(|v| op::hadamard(v, 1), [1, 0, 0, 0]), [0, 1, 1, 1]);
+    assert_eq!(plain(|v| op::hadamard(v, 1), [-1, 0, 0, 0]), [-1, 0, 0, 0]);
     assert_eq!(
-        op::hadamard([2147483647, 0, 0, 1], 0),
+        plain(|v| op::hadamard(v, 0), [2147483647, 0, 0, 1]),
         [-1073741824, -1073741825, -1073741825, -1073741824]
     );
 }
 
 #[test]
 fn other_small_operators() {
-    assert_eq!(op::odd([8, 0, 0, 0]), [6, 5, 2, 2]);
-    assert_eq!(op::odd_odd([8, 0, 0, 0]), [7, -3, -3, 1]);
-    assert_eq!(op::rotation([0, 1]), [-1, 1]);
-    assert_eq!(op::scale([8, 0]), [9, 5]);
-    assert_eq!(op::scale([-1, 0]), [-2, -2]);
-    assert_eq!(op::post_hadamard([8, 0, 0, 0]), [4, 0, 0, 4]);
+    assert_eq!(plain(op::odd, [8, 0, 0, 0]), [6, 5, 2, 2]);
+    assert_eq!(plain(op::odd_odd, [8, 0, 0, 0]), [7, -3, -3, 1]);
+    assert_eq!(plain(op::rotation, [0, 1]), [-1, 1]);
+    assert_eq!(plain(op::scale, [8, 0]), [9, 5]);
+    assert_eq!(plain(op::scale, [-1, 0]), [-2, -2]);
+    assert_eq!(plain(op::post_hadamard, [8, 0, 0, 0]), [4, 0, 0, 4]);
 }
 
 #[test]
 fn core_transform() {
     let mut coefficients = [0; 16];
     coefficients[0] = 16;
-    assert_eq!(op::core(coefficients), [4; 16]);
+    assert_eq!(plain(op::core, coefficients), [4; 16]);
 
     coefficients = [0; 16];
     coefficients[1] = 8;
     let rows = [[3, 1, -1, -3], [3, 1, -1, -3], [3, 1, -1, -3], [2, 1, -1, -3]];
-    assert_eq!(op::core(coefficients), rows.concat()[..]);
+    assert_eq!(plain(op::core, coefficients), rows.concat()[..]);
 }
 
 #[test]

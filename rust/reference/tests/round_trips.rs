@@ -1,5 +1,6 @@
 //! The forward direction against the inverse, operator by operator and over whole pictures.
 
+use reference::number::{told, Telling};
 use reference::operators::{forward as f, inverse as i};
 use reference::random::{Random, Values};
 use reference::{forward, inverse, Size};
@@ -8,16 +9,19 @@ fn array<const N: usize>(random: &mut Random, values: Values) -> [i32; N] {
     std::array::from_fn(|_| random.number(values))
 }
 
-fn undo_each_other<const N: usize>(
-    there: impl Fn([i32; N]) -> [i32; N],
-    back: impl Fn([i32; N]) -> [i32; N],
+/// A sum wraps on the way back if and only if one wraps on the way there.
+fn undo_each_other<const K: usize>(
+    there: fn([Telling; K]) -> [Telling; K],
+    back: fn([Telling; K]) -> [Telling; K],
 ) {
     let mut random = Random::new(1);
     for values in Values::ALL {
         for _ in 0..2000 {
             let numbers = array(&mut random, values);
-            assert_eq!(back(there(numbers)), numbers);
-            assert_eq!(there(back(numbers)), numbers);
+            for (one, other) in [(there, back), (back, there)] {
+                let (results, wrapped) = told(one, numbers);
+                assert_eq!(told(other, results), (numbers, wrapped));
+            }
         }
     }
 }
@@ -51,13 +55,16 @@ fn whole_pictures_both_ways() {
                 let (mut dc_back, mut low_back, mut high_back) =
                     (vec![0; n], vec![0; 15 * n], vec![0; 240 * n]);
 
-                inverse(mode, size, &dc, &low, &high, &mut inner).unwrap();
-                forward(mode, size, &inner, &mut dc_back, &mut low_back, &mut high_back).unwrap();
+                let there = inverse(mode, size, &dc, &low, &high, &mut inner);
+                let back = forward(mode, size, &inner, &mut dc_back, &mut low_back, &mut high_back);
                 assert_eq!((&dc_back, &low_back, &high_back), (&dc, &low, &high));
+                assert_eq!(back, there);
 
-                forward(mode, size, &samples, &mut dc_back, &mut low_back, &mut high_back).unwrap();
-                inverse(mode, size, &dc_back, &low_back, &high_back, &mut inner).unwrap();
+                let there =
+                    forward(mode, size, &samples, &mut dc_back, &mut low_back, &mut high_back);
+                let back = inverse(mode, size, &dc_back, &low_back, &high_back, &mut inner);
                 assert_eq!(inner, samples);
+                assert_eq!(back, there);
             }
         }
     }

@@ -88,7 +88,8 @@ fn check_alike(path: &Path, one: &PlaneFile, other: &PlaneFile) -> Result<(), Fa
 
 /// The samples of a file, whose planes are gone when this returns.
 fn samples(path: &Path, file: PlaneFile) -> Result<Vec<i32>, Failure> {
-    file.to_samples().map_err(|refusal| Failure::refused(path, refusal))
+    let (samples, _) = file.to_samples().map_err(|refusal| Failure::refused(path, refusal))?;
+    Ok(samples)
 }
 
 /// What differs between two pictures of one size.

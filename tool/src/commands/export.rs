@@ -5,8 +5,8 @@ use crate::grey::{Depth, Format, Shape};
 use crate::progress::Progress;
 use crate::range::{Range, Wanted};
 use crate::stopwatch::Stopwatch;
-use crate::{output, plane_file};
-use lapped::{Mode, PlaneFile};
+use crate::{output, plane_file, wraps};
+use lapped::{Mode, PlaneFile, Wrapped};
 use std::path::PathBuf;
 
 pub const EXAMPLE: &str = "lapped export examples/disc.planes -o disc.png";
@@ -63,6 +63,7 @@ pub fn run(args: &Args, progress: &Progress) -> Result<Outcome, Failure> {
     let clipped = args.write(format, &numbers, range, depth, progress)?;
     times.lap("writing");
 
+    wraps::tell_of(&args.file, numbers.wrapped);
     let name = args.file.display();
     if clipped > 0 {
         let of = numbers.samples.len();
@@ -74,9 +75,10 @@ pub fn run(args: &Args, progress: &Progress) -> Result<Outcome, Failure> {
     Ok(Outcome::Done)
 }
 
-/// What is to be shown, in raster order.
+/// What is to be shown, in raster order, and whether a sum wrapped on the way to it.
 struct Numbers {
     samples: Vec<i32>,
+    wrapped: Wrapped,
     width: usize,
     height: usize,
 }
@@ -99,12 +101,12 @@ impl Args {
     /// The samples of a file or its quarter view; its planes are gone when this returns.
     fn transformed(&self, file: PlaneFile) -> Result<Numbers, Failure> {
         let size = file.planes.size;
-        let (samples, width, height) = match self.quarter {
+        let (result, width, height) = match self.quarter {
             true => (file.to_quarter_view(), size.view_across(), size.view_down()),
             false => (file.to_samples(), size.samples_across(), size.samples_down()),
         };
-        let samples = samples.map_err(|refusal| Failure::refused(&self.file, refusal))?;
-        Ok(Numbers { samples, width, height })
+        let (samples, wrapped) = result.map_err(|refusal| Failure::refused(&self.file, refusal))?;
+        Ok(Numbers { samples, wrapped, width, height })
     }
 
     /// Writes the picture row by row; gives how many samples were clipped.
@@ -116,7 +118,7 @@ impl Args {
         depth: Depth,
         progress: &Progress,
     ) -> Result<usize, Failure> {
-        let Numbers { ref samples, width, height } = *numbers;
+        let Numbers { ref samples, width, height, .. } = *numbers;
         let bar = progress.bar(height, "rows");
         let mut clipped = 0;
         output::write_whole(&self.output, |out| {

@@ -30,7 +30,7 @@ pub fn run(args: &Args, progress: &Progress) -> Result<Outcome, Failure> {
     let file = plane_file::read(&args.file)?;
     let (mode, size) = (file.mode, file.planes.size);
     let refused = |refusal| Failure::refused(&args.file, refusal);
-    let samples = file.to_samples().map_err(refused)?;
+    let (samples, _) = file.to_samples().map_err(refused)?;
     drop(file); // From here on the samples, and the planes and samples that come back.
 
     let spinner = progress.spinner("finding a step");

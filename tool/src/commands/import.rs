@@ -3,7 +3,7 @@
 use crate::failure::{tell, Failure, Outcome};
 use crate::grey::Picture;
 use crate::progress::Progress;
-use crate::{plane_file, shape};
+use crate::{plane_file, shape, wraps};
 use lapped::{Mode, PlaneFile, Planes, Refusal, Size};
 use std::path::{Path, PathBuf};
 
@@ -34,8 +34,9 @@ pub fn run(args: &Args, progress: &Progress) -> Result<Outcome, Failure> {
     tell_of_filling(&args.input, &picture, size);
     drop(picture); // From here on, samples and planes, then planes and bytes.
 
-    let planes = Planes::from_samples(args.mode, size, &samples).map_err(refused)?;
+    let (planes, wrapped) = Planes::from_samples(args.mode, size, &samples).map_err(refused)?;
     drop(samples);
+    wraps::tell_of(&args.input, wrapped);
     plane_file::write(&args.output, &PlaneFile { mode: args.mode, planes }, progress)?;
     Ok(Outcome::Done)
 }

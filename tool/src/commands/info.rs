@@ -2,13 +2,16 @@
 
 use crate::failure::{Failure, Outcome};
 use crate::progress::Progress;
-use crate::{input, output, plane_file, shape};
-use lapped::PlaneFile;
+use crate::{input, output, plane_file, shape, wraps};
+use lapped::{PlaneFile, Wrapped};
 use std::path::{Path, PathBuf};
 
 pub const EXAMPLE: &str = "lapped info examples/disc.planes";
 
-/// Say the mode, the size and the extreme coefficients of plane files
+/// Say the mode, the size and the extreme coefficients of plane files, and whether a sum wraps
+///
+/// A sum wraps where numbers are so large that a step of the way to the samples leaves 32 bits. What
+/// comes of it is exact and can be undone, but no picture of 16 bits or less has such numbers.
 #[derive(clap::Args)]
 pub struct Args {
     /// Plane files; `-` is standard input
@@ -21,8 +24,8 @@ pub fn run(args: &Args, progress: &Progress) -> Result<Outcome, Failure> {
     let bar = progress.bar(args.files.len(), "files");
     let mut outcome = Outcome::Done;
     for path in &args.files {
-        match plane_file::read(path) {
-            Ok(file) => bar.aside(|| output::report(&report(path, &file)))?,
+        match read(path) {
+            Ok((file, wrapped)) => bar.aside(|| output::report(&report(path, &file, wrapped)))?,
             Err(failure) => {
                 bar.aside(|| failure.tell());
                 outcome = Outcome::RefusedOrDifferent;
@@ -33,7 +36,15 @@ pub fn run(args: &Args, progress: &Progress) -> Result<Outcome, Failure> {
     Ok(outcome)
 }
 
-fn report(path: &Path, file: &PlaneFile) -> String {
+/// What a file holds, and whether a sum wraps on the way to its samples, which are gone when this
+/// returns.
+fn read(path: &Path) -> Result<(PlaneFile, Wrapped), Failure> {
+    let file = plane_file::read(path)?;
+    let (_, wrapped) = file.to_samples().map_err(|refusal| Failure::refused(path, refusal))?;
+    Ok((file, wrapped))
+}
+
+fn report(path: &Path, file: &PlaneFile, wrapped: Wrapped) -> String {
     let planes = &file.planes;
     let size = planes.size;
     let mut text = format!(
@@ -48,7 +59,7 @@ fn report(path: &Path, file: &PlaneFile) -> String {
         let (smallest, largest) = extremes(plane);
         text += &format!("  {band:<9}  {smallest} to {largest}\n");
     }
-    text
+    text + &wraps::line(wrapped)
 }
 
 /// The smallest and the largest number of a plane; a plane is never empty.

@@ -66,9 +66,9 @@ fn first_difference(path: &Path) -> Result<Option<usize>, Failure> {
     drop(bytes);
 
     let (mode, size) = (read.mode, read.planes.size);
-    let samples = read.to_samples().map_err(refused)?;
+    let (samples, _) = read.to_samples().map_err(refused)?;
     drop(read); // The way back must not find its answers lying there.
-    let planes = Planes::from_samples(mode, size, &samples).map_err(refused)?;
+    let (planes, _) = Planes::from_samples(mode, size, &samples).map_err(refused)?;
     drop(samples);
     let bytes = PlaneFile { mode, planes }.to_bytes().map_err(refused)?;
     compare(&bytes, &mut again).map_err(system)

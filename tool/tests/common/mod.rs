@@ -137,6 +137,21 @@ pub fn samples_of_planes(mode: u32, size: Size, planes: &Planes) -> Vec<i32> {
     samples
 }
 
+/// Whether a sum wraps on the way from planes to samples.
+pub fn wraps_of_planes(mode: u32, size: Size, planes: &Planes) -> bool {
+    let [dc, low, high] = planes;
+    let mut samples = vec![0; 256 * dc.len()];
+    reference::inverse(mode, size, dc, low, high, &mut samples).unwrap()
+}
+
+/// What is said on standard error of a file in which a sum wraps, and nothing of another.
+pub fn note_of_wraps(file: &str, wraps: bool) -> String {
+    match wraps {
+        true => format!("lapped: {file}: a sum wrapped, as only wild numbers make it\n"),
+        false => String::new(),
+    }
+}
+
 /// A sound plane file, small and of no particular contents.
 pub fn some_file(seed: u64) -> Vec<u8> {
     let size = Size::new(2, 1);

@@ -16,8 +16,8 @@ returns c6 =
     let c2 = c3 .before in
     let c1 = c2 .before in
     c6 .mirrored .ensures
-    ∙ mirrored-run _ _ (c5 .hadamards .ensures .0)
-    ∙ ap (run coreMirroredStage) (c4 .split .ensures ∙ c3 .quartered .ensures ∙ quarter-run _ _ (c2 .quarter-stage .ensures) ∙ ap (run quarterStage) (c1 .reorder .ensures))
+    ∙ mirrored-run _ _ (c5 .hadamards .ensures .0) .0
+    ∙ ap (run coreMirroredStage) (c4 .split .ensures ∙ c3 .quartered .ensures ∙ quarter-run _ _ (c2 .quarter-stage .ensures) .0 ∙ ap (run quarterStage) (c1 .reorder .ensures))
     ∙ stages-run _
 
 pub core-spec : {M : Type 1} → statement M

@@ -19,8 +19,8 @@ returns c7 =
     c7 .undo-reorder .ensures
     ∙ ap (get inverseReorder)
     (c6 .quartered .ensures
-    ∙ quarter-undo _ _ (c5 .undo-quarter-stage .ensures)
-    ∙ ap (undo quarterStage) (c4 .quarters .ensures ∙ c3 .mirrored .ensures ∙ mirrored-undo _ _ (c2 .hadamards .ensures .1) ∙ ap (undo coreMirroredStage) (c1 .split .ensures))
+    ∙ quarter-undo _ _ (c5 .undo-quarter-stage .ensures) .0
+    ∙ ap (undo quarterStage) (c4 .quarters .ensures ∙ c3 .mirrored .ensures ∙ mirrored-undo _ _ (c2 .hadamards .ensures .1) .0 ∙ ap (undo coreMirroredStage) (c1 .split .ensures))
     ∙ stages-undo _)
 
 pub undo-core-spec : {M : Type 1} → statement M

@@ -3,7 +3,6 @@ use mathlib.Core.Path.{_∙_}
 use borrow.Author.Needs.{needs}
 use Rattle.lifting.specs.Program.{get}
 use Rattle.figures.specs.Block.{flat}
-use Rattle.blocks.proofs.Blocks.{four-is}
 use Rattle.core_transform.proofs.undo_reorder.Statement.{statement}
 use Rattle.core_transform.proofs.undo_reorder.Tie as tie
 

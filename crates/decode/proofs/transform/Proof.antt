@@ -44,7 +44,7 @@ returns-2 c =
       e,
       (
         p,
-        samples-are bytes _ e (z .if1 .left) _ (was s) p (record { dc = k .1 .0 ∙ s .pre .0 .dc; low = k .1 .1 .0 ∙ s .pre .0 .low; high = k .1 .1 .1 .0 ∙ s .pre .0 .high }) (s .args .samples .now) (s .pre .1) (i .inverse .ensures .0) (i .inverse .ensures .1),
+        samples-are bytes _ e (z .if1 .left) _ (was s) p (record { dc = k .1 .0 ∙ s .pre .0 .dc; low = k .1 .1 .0 ∙ s .pre .0 .low; high = k .1 .1 .1 .0 ∙ s .pre .0 .high }) (s .args .samples .now) (s .pre .1) (i .inverse .ensures .0) (i .inverse .ensures .1 .1),
       ),
     )
 

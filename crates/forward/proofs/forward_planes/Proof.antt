@@ -16,7 +16,7 @@ returns c =
     let z = o .undo-level-one .kept .1 .1 in
     let f = s .pre .1 .1 in
     planes-are (s .args .mode) (s .args .size) (s .pre .0) (s .args .samples .now) (q .0) (q .1 .0) (q .1 .1 .0) (w .0) (w .1 .0)
-    (record { dc = z .0 ∙ y .0 ∙ f .dc; low = z .1 .0 ∙ y .1 .0 ∙ f .low; high = y .1 .1 .0 ∙ f .high }) (t .undo-level-two .ensures) (o .undo-level-one .ensures)
+    (record { dc = z .0 ∙ y .0 ∙ f .dc; low = z .1 .0 ∙ y .1 .0 ∙ f .low; high = y .1 .1 .0 ∙ f .high }) (t .undo-level-two .ensures .0) (o .undo-level-one .ensures)
 
 asked : tie.Need-undo-level-one-requires
 asked c κs =

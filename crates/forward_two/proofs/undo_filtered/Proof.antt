@@ -1,10 +1,13 @@
--- Row after row of macroblocks, and then the blocks are the squares of the level's grid.
+-- Row after row of macroblocks, and then the blocks are the squares of the level's grid, and all samples were looked at.
 use Prim.Native.Nat.{ℕ, _+_, _-_, _*_, _≤_}
 use mathlib.Core.Path.{_≡_, refl, sym, _∙_, ap}
+use mathlib.Core.Bool.{false}
 use native.Mathlib.Omega.{arith}
 use native.Mathlib.Nat.{add-mul}
 use borrow.Author.Needs.{needs}
 use lib.ListN.{length}
+use Rattle.large_numbers.specs.Small.{Small}
+use Rattle.large_numbers.proofs.Small.{neither, small-none, small-up-to, small-part, small-within}
 use Rattle.forward_two_cores.specs.Blocks.{blockOf, squareIn}
 use Rattle.forward_two_cores.proofs.Whole.{sample-block, second-undone}
 use Rattle.forward_two_edges.specs.Unfiltered.{unfiltered}
@@ -16,15 +19,16 @@ use Rattle.forward_two.proofs.undo_filtered.Statement.{statement}
 use Rattle.forward_two.proofs.undo_filtered.Tie as tie
 
 abbrev Inv-loop : tie.InvT-loop
-Inv-loop size samples dc₀ low₀ high₀ across height w strip₀ at₀ m₀ r₀ dc low high strip at m r =
+Inv-loop size samples dc₀ low₀ high₀ across height w strip₀ large₀ at₀ m₀ r₀ dc low high strip large at m r =
     let W = size .width .0 in
     (r ≤ size .height .0) × Planes size dc low high × (length strip ≡ 1296) × Through size samples (r * W) (blockOf dc low high) × (at ≡ r * (256 * W)) × (m ≡ r * W)
+    × (large ≡ false → Small samples 0 at)
 
 abbrev μ-loop : tie.MeasureT-loop
-μ-loop size samples dc₀ low₀ high₀ across height w strip₀ at₀ m₀ r₀ dc low high strip at m r = size .height .0 - r
+μ-loop size samples dc₀ low₀ high₀ across height w strip₀ large₀ at₀ m₀ r₀ dc low high strip large at m r = size .height .0 - r
 
 loop-holds : tie.Need-loop-holds Inv-loop μ-loop
-loop-holds c = let s = c .before .before in let a = s .args in (omega arith, s .pre .1, refl, through-as (0 * a .size .width .0) (omega arith) (through-none (a .size) (a .samples .now) (blockOf (a .dc .now) (a .low .now) (a .high .now))), omega arith, omega arith)
+loop-holds c = let s = c .before .before in let a = s .args in (omega arith, s .pre .1, refl, through-as (0 * a .size .width .0) (omega arith) (through-none (a .size) (a .samples .now) (blockOf (a .dc .now) (a .low .now) (a .high .now))), omega arith, omega arith, λ e. small-none (a .samples .now) (omega arith))
 
 undo-row-requires : tie.Need-undo-row-requires Inv-loop μ-loop
 undo-row-requires c κs =
@@ -63,13 +67,15 @@ loop-again c =
     let l = test .before in
     let v = l .loop .inv in
     let k = d .undo-row .kept in
-    let W = l .before .before .before .args .size .width .0 in (
+    let a = l .before .before .before .args in
+    let W = a .size .width .0 in (
       omega (arith, test .loop-test),
       record { of-dc = k .1 .1 .1 .1 .0 ∙ v .1 .of-dc; of-low = k .1 .1 .1 .1 .1 .0 ∙ v .1 .of-low; of-high = k .1 .1 .1 .1 .1 .1 .0 ∙ v .1 .of-high },
-      d .undo-row .ensures .1,
+      d .undo-row .ensures .1 .0,
       through-as ((l .loop .r + 1) * W) (sym (add-mul (l .loop .r) 1 W ∙ omega arith)) (d .undo-row .ensures .0),
       omega (arith, v .4),
       omega (arith, v .5),
+      neither (small-up-to (a .samples .now) (omega arith) (omega arith)) (v .6) (d .undo-row .ensures .1 .1),
     )
 
 same-length : tie.Need-same-length Inv-loop μ-loop
@@ -91,9 +97,11 @@ returns c =
     let z = s .pre .0 .0 in
     let u = unfiltered (a .size) (a .samples .now) in
     let all : l .loop .r ≡ H = omega (arith, c .loop-test, l .loop .inv .0) in
-    let most : l .loop .r * W ≡ W * H = ap (λ (r : ℕ). r * W) all ∙ omega arith in
-    second-undone (z .wide) H (z .tall) (squareIn W u) (l .loop .dc) (l .loop .low) (l .loop .high) u (as-many (a .size) (a .samples .now) (z .wide) (z .tall) ∙ s .pre .0 .1)
-    (λ b h. sample-block (z .wide) H (z .tall) u b) (λ t h. l .loop .inv .3 .done t (omega (arith, most, h)))
+    let most : l .loop .r * W ≡ W * H = ap (λ (r : ℕ). r * W) all ∙ omega arith in (
+      second-undone (z .wide) H (z .tall) (squareIn W u) (l .loop .dc) (l .loop .low) (l .loop .high) u (as-many (a .size) (a .samples .now) (z .wide) (z .tall) ∙ s .pre .0 .1)
+          (λ b h. sample-block (z .wide) H (z .tall) u b) (λ t h. l .loop .inv .3 .done t (omega (arith, most, h))),
+      λ e. small-within (a .samples .now) (small-part (a .samples .now) (l .loop .inv .6 e) (omega arith) (omega (arith, most, l .loop .inv .4, s .pre .0 .1))),
+    )
 
 pub undo-filtered-spec : {M : Type 1} → statement M
 undo-filtered-spec =

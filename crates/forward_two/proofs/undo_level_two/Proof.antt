@@ -1,4 +1,4 @@
--- The filters and then the cores, or the cores alone.
+-- The filters and then the cores, or the cores alone; either way the samples were looked at.
 use mathlib.Core.Path.{refl}
 use borrow.Author.Needs.{needs}
 use Rattle.forward_kernel.proofs.Level.{level-filtered, level-plain}
@@ -12,14 +12,14 @@ returns c =
     let d = c .before .before .before in
     let t = d .before .before .before .before in
     let a = t .before .args in
-    level-filtered (a .filtered) _ _ (a .samples .now) (t .if1 .taken) refl (d .undo-filtered .ensures)
+    (level-filtered (a .filtered) _ _ (a .samples .now) (t .if1 .taken) refl (d .undo-filtered .ensures .0), d .undo-filtered .ensures .1)
 
 returns-2 : tie.Need-returns-2
 returns-2 c =
     let d = c .before .before .before in
     let t = d .before .before .before .before in
     let a = t .before .args in
-    level-plain (a .filtered) _ _ (a .samples .now) (t .if1 .left) (d .undo-cores .ensures)
+    (level-plain (a .filtered) _ _ (a .samples .now) (t .if1 .left) (d .undo-cores .ensures .0), d .undo-cores .ensures .1)
 
 pub undo-level-two-spec : {M : Type 1} → statement M
 undo-level-two-spec =

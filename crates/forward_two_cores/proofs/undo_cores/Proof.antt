@@ -1,6 +1,8 @@
--- Row after row, each of which begins where the one before ends; and then the blocks are the squares of the level's grid.
+-- Row after row, each of which begins where the one before ends; and then the blocks are the squares of the level's grid, and all
+-- samples were looked at.
 use Prim.Native.Nat.{ℕ, _+_, _-_, _*_, _≤_}
 use mathlib.Core.Path.{_≡_, refl}
+use mathlib.Core.Bool.{false}
 use mathlib.Core.List.{List}
 use native.Mathlib.Omega.{arith}
 use borrow.Author.Needs.{needs}
@@ -10,6 +12,8 @@ use Rattle.lifting.specs.Program.{undo}
 use Rattle.figures.specs.Figures.{core}
 use Rattle.picture.proofs.CheckLaws.{few-macroblocks}
 use Rattle.grid.proofs.Rows.{row-inside}
+use Rattle.large_numbers.specs.Small.{Small}
+use Rattle.large_numbers.proofs.Small.{neither, small-none, small-up-to, small-part, small-within}
 use Rattle.forward_two_cores.specs.Blocks.{blockOf, squareIn, Among, Replaced}
 use Rattle.forward_two_cores.proofs.Stores.{among-none, among-as, among-more}
 use Rattle.forward_two_cores.proofs.Whole.{sample-block, second-undone}
@@ -17,14 +21,14 @@ use Rattle.forward_two_cores.proofs.undo_cores.Statement.{statement}
 use Rattle.forward_two_cores.proofs.undo_cores.Tie as tie
 
 abbrev Inv-loop : tie.InvT-loop
-Inv-loop size samples dc₀ low₀ high₀ across down w at₀ m₀ r₀ dc low high at m r =
+Inv-loop size samples dc₀ low₀ high₀ across down w at₀ m₀ large₀ r₀ dc low high at m large r =
     let W = size .width .0 in
     (r ≤ down) × (length dc ≡ length dc₀) × (length low ≡ length low₀) × (length high ≡ length high₀)
     × Replaced (Among 0 (r * W)) (λ t. undo core (squareIn W samples t)) (blockOf dc₀ low₀ high₀) (blockOf dc low high)
-    × (at ≡ r * (256 * W)) × (m ≡ r * W)
+    × (at ≡ r * (256 * W)) × (m ≡ r * W) × (large ≡ false → Small samples 0 at)
 
 abbrev μ-loop : tie.MeasureT-loop
-μ-loop size samples dc₀ low₀ high₀ across down w at₀ m₀ r₀ dc low high at m r = down - r
+μ-loop size samples dc₀ low₀ high₀ across down w at₀ m₀ large₀ r₀ dc low high at m large r = down - r
 
 -- the row ends in the picture, which is small
 inside : (c : tie.In-loop Inv-loop μ-loop) → let l = c .before in let a = l .before .before .before .args in let W = a .size .width .0 in
@@ -42,7 +46,7 @@ abbrev turn : tie.After-high Inv-loop μ-loop → tie.In-loop Inv-loop μ-loop
 turn c = c .before .before .before .before .before .before .before
 
 loop-holds : tie.Need-loop-holds Inv-loop μ-loop
-loop-holds c = (omega arith, refl, refl, refl, among-as _ 0 (0 * c .before .before .args .size .width .0) refl (omega arith) (among-none 0 _ _), omega arith, omega arith)
+loop-holds c = (omega arith, refl, refl, refl, among-as _ 0 (0 * c .before .before .args .size .width .0) refl (omega arith) (among-none 0 _ _), omega arith, omega arith, λ e. small-none (c .before .before .args .samples .now) (omega arith))
 
 undo-row-requires : tie.Need-undo-row-requires Inv-loop μ-loop
 undo-row-requires c κs =
@@ -60,8 +64,16 @@ loop-again c =
     let a = l .before .before .before .args in
     let W = a .size .width .0 in
     let r = l .loop .r in
-    let f : ℕ → List ℤ = λ t. undo core (squareIn W (a .samples .now) t) in
-    (omega arith, omega arith, omega arith, omega arith, among-as f 0 ((r + 1) * W) refl (omega arith) (among-more f 0 (r * W) (r * W + W) (omega arith) (omega arith) (v .4) (d .undo-row .ensures)), omega (arith, v .5), omega (arith, v .6))
+    let f : ℕ → List ℤ = λ t. undo core (squareIn W (a .samples .now) t) in (
+      omega arith,
+      omega arith,
+      omega arith,
+      omega arith,
+      among-as f 0 ((r + 1) * W) refl (omega arith) (among-more f 0 (r * W) (r * W + W) (omega arith) (omega arith) (v .4) (d .undo-row .ensures .0)),
+      omega (arith, v .5),
+      omega (arith, v .6),
+      neither (small-up-to (a .samples .now) (omega arith) (omega arith)) (v .7) (d .undo-row .ensures .1),
+    )
 
 same-length : tie.Need-same-length Inv-loop μ-loop
 same-length c = c .before .loop .inv .1
@@ -82,9 +94,11 @@ returns c =
     let wide = s .pre .0 .wide in
     let tall = s .pre .0 .tall in
     let all : l .loop .r ≡ H = omega arith in
-    let most : l .loop .r * W ≡ W * H = rw all (omega arith) in
-    second-undone wide H tall (squareIn W (a .samples .now)) (l .loop .dc) (l .loop .low) (l .loop .high) (a .samples .now) (s .pre .1 .0)
-    (λ b h. sample-block wide H tall (a .samples .now) b) (λ t h. l .loop .inv .4 .own t (omega arith, omega (arith, most)))
+    let most : l .loop .r * W ≡ W * H = rw all (omega arith) in (
+      second-undone wide H tall (squareIn W (a .samples .now)) (l .loop .dc) (l .loop .low) (l .loop .high) (a .samples .now) (s .pre .1 .0)
+          (λ b h. sample-block wide H tall (a .samples .now) b) (λ t h. l .loop .inv .4 .own t (omega arith, omega (arith, most))),
+      λ e. small-within (a .samples .now) (small-part (a .samples .now) (l .loop .inv .7 e) (omega arith) (omega (arith, most, l .loop .inv .5, s .pre .1 .0))),
+    )
 
 pub undo-cores-spec : {M : Type 1} → statement M
 undo-cores-spec =

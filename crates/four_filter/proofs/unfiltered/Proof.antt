@@ -5,8 +5,6 @@ use mathlib.Core.List.{List, [], _∷_}
 use borrow.Author.Needs.{needs}
 use lib.IntN.{ℤ}
 use lib.Signed.{mag}
-use mir.Val.{toZ, ofZ}
-use mir.Syntax.{w32}
 use Rattle.lifting.specs.Program.{Program, at, undo}
 use Rattle.lifting.proofs.Bits.{back}
 use Rattle.figures.specs.Block.{four}

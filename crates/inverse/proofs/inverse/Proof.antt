@@ -1,5 +1,6 @@
 -- The checks of mode and size refuse, or give the mode; then those of the lengths decide.
 use mathlib.Core.Path.{sym, _∙_}
+use mathlib.Core.Bool.{Bool, false}
 use mathlib.Core.List.{List, _++_}
 use Prim.Native.Nat.{ℕ}
 use borrow.Author.Needs.{needs}
@@ -10,6 +11,7 @@ use Rattle.picture.specs.Modes.{modeOf}
 use Rattle.picture.specs.Planes.{Planes, planes}
 use Rattle.picture.specs.Numbers.{planeChecks, sampleCheck, inverseNumber}
 use Rattle.picture.specs.Transform.{inverseBy}
+use Rattle.picture.specs.Wraps.{inverseWrapsBy}
 use Rattle.picture.proofs.CheckLaws.{refused-call, ready-call, ready-sized}
 use Rattle.inverse.proofs.inverse.Statement.{statement}
 use Rattle.inverse.proofs.inverse.Tie as tie
@@ -24,6 +26,9 @@ rest s = planeChecks (macroblocks (s .args .size)) (given s) ++ sampleCheck (mac
 abbrev result : tie.Start → Mode → List ℤ
 result s m = inverseBy m (s .args .size) (given s)
 
+abbrev told : tie.Start → Mode → Bool
+told s m = inverseWrapsBy m (s .args .size) (given s)
+
 inverse-sized-requires : tie.Need-inverse-sized-requires
 inverse-sized-requires c κs =
     let k = c .before .before in
@@ -34,10 +39,12 @@ inverse-sized-requires c κs =
 returns : tie.Need-returns
 unfolding inverseNumber
 returns c =
-    let k = c .before in
+    let k = c .before .before in
     let n = k .before .before in
     let s = n .before in
-    refused-call (s .args .mode) (s .args .size) (rest s) (result s (modeOf (s .args .mode))) (s .args .samples .now) (sym (k .number .given .1) ∙ n .check-shape .ensures)
+    let e = sym (k .number .given .1) ∙ n .check-shape .ensures in
+    let law = refused-call (s .args .mode) (s .args .size) (rest s) (result s (modeOf (s .args .mode))) (s .args .samples .now) e in
+    rw (c .refused .ensures .0, c .refused .ensures .1) (law .0, (refused-call (s .args .mode) (s .args .size) (rest s) (told s (modeOf (s .args .mode))) false e .1, law .1))
 
 returns-2 : tie.Need-returns-2
 unfolding inverseNumber
@@ -46,7 +53,10 @@ returns-2 c =
     let k = d .before .before .before in
     let n = k .before .before in
     let s = n .before in
-    ready-call (s .args .mode) (s .args .size) (rest s) (sym (k .known .given .1) ∙ n .check-shape .ensures) (result s) (s .args .samples .now) (d .inverse-sized .ensures .0) (d .inverse-sized .ensures .1)
+    let e = sym (k .known .given .1) ∙ n .check-shape .ensures in
+    let a = d .inverse-sized .ensures in
+    let law = ready-call (s .args .mode) (s .args .size) (rest s) e (result s) (s .args .samples .now) (a .0) (a .1 .1) in
+    (law .0, (ready-call (s .args .mode) (s .args .size) (rest s) e (told s) false (a .0) (a .1 .0) .1, law .1))
 
 pub inverse-spec : {M : Type 1} → statement M
-inverse-spec = tie.close (tie.spec (λ c κs. search needs) (λ c. search needs) (λ c. search needs) inverse-sized-requires returns (λ c. search needs) returns-2)
+inverse-spec = tie.close (tie.spec (λ c κs. search needs) (λ c. search needs) (λ c κs. search needs) (λ c. search needs) inverse-sized-requires returns (λ c. search needs) returns-2)

@@ -35,7 +35,7 @@ returns c =
     let s = n .before in
     let a = s .args in
     let e = n .macroblocks .ensures .0 in
-    t .level-two .ensures
+    t .level-two .ensures .0
     ∙ ap (λ v. run (levelTwo (a .mode) (a .size)) (secondGrid (a .size .width .0) (a .size .height .0) v (a .high .now)))
     (take-at _ _ _ (o .level-one .kept .0 ∙ front s e ∙ ap (λ (k : ℕ). 16 * k) e) ∙ o .level-one .ensures)
 

@@ -1,5 +1,6 @@
 -- The checks of mode and size refuse, or give the mode; then those of the lengths decide.
 use mathlib.Core.Path.{sym, _∙_}
+use mathlib.Core.Bool.{Bool, false}
 use mathlib.Core.List.{List, _++_}
 use Prim.Native.Nat.{ℕ}
 use borrow.Author.Needs.{needs}
@@ -9,6 +10,7 @@ use Rattle.picture.specs.Sizes.{macroblocks}
 use Rattle.picture.specs.Modes.{modeOf}
 use Rattle.picture.specs.Numbers.{lowChecks, viewCheck, quarterNumber}
 use Rattle.picture.specs.Transform.{quarterBy}
+use Rattle.picture.specs.Wraps.{quarterWrapsBy}
 use Rattle.picture.proofs.CheckLaws.{refused-call, ready-call, ready-sized}
 use Rattle.inverse.proofs.quarter_view.Statement.{statement}
 use Rattle.inverse.proofs.quarter_view.Tie as tie
@@ -20,6 +22,9 @@ rest s = lowChecks (macroblocks (s .args .size)) (s .args .dc .now) (s .args .lo
 abbrev result : tie.Start → Mode → List ℤ
 result s m = quarterBy m (s .args .size) (s .args .dc .now) (s .args .low .now)
 
+abbrev told : tie.Start → Mode → Bool
+told s m = quarterWrapsBy m (s .args .size) (s .args .dc .now) (s .args .low .now)
+
 quarter-sized-requires : tie.Need-quarter-sized-requires
 quarter-sized-requires c κs =
     let k = c .before .before in
@@ -30,10 +35,12 @@ quarter-sized-requires c κs =
 returns : tie.Need-returns
 unfolding quarterNumber
 returns c =
-    let k = c .before in
+    let k = c .before .before in
     let n = k .before .before in
     let s = n .before in
-    refused-call (s .args .mode) (s .args .size) (rest s) (result s (modeOf (s .args .mode))) (s .args .view .now) (sym (k .number .given .1) ∙ n .check-shape .ensures)
+    let e = sym (k .number .given .1) ∙ n .check-shape .ensures in
+    let law = refused-call (s .args .mode) (s .args .size) (rest s) (result s (modeOf (s .args .mode))) (s .args .view .now) e in
+    rw (c .refused .ensures .0, c .refused .ensures .1) (law .0, (refused-call (s .args .mode) (s .args .size) (rest s) (told s (modeOf (s .args .mode))) false e .1, law .1))
 
 returns-2 : tie.Need-returns-2
 unfolding quarterNumber
@@ -42,7 +49,10 @@ returns-2 c =
     let k = d .before .before .before in
     let n = k .before .before in
     let s = n .before in
-    ready-call (s .args .mode) (s .args .size) (rest s) (sym (k .known .given .1) ∙ n .check-shape .ensures) (result s) (s .args .view .now) (d .quarter-sized .ensures .0) (d .quarter-sized .ensures .1)
+    let e = sym (k .known .given .1) ∙ n .check-shape .ensures in
+    let a = d .quarter-sized .ensures in
+    let law = ready-call (s .args .mode) (s .args .size) (rest s) e (result s) (s .args .view .now) (a .0) (a .1 .1) in
+    (law .0, (ready-call (s .args .mode) (s .args .size) (rest s) e (told s) false (a .0) (a .1 .0) .1, law .1))
 
 pub quarter-view-spec : {M : Type 1} → statement M
-quarter-view-spec = tie.close (tie.spec (λ c κs. search needs) (λ c. search needs) (λ c. search needs) quarter-sized-requires returns (λ c. search needs) returns-2)
+quarter-view-spec = tie.close (tie.spec (λ c κs. search needs) (λ c. search needs) (λ c κs. search needs) (λ c. search needs) quarter-sized-requires returns (λ c. search needs) returns-2)

@@ -1,8 +1,13 @@
--- The row is filled from its last four blocks to its first; the numbers of level one stay in place until they are read.
+-- The row is filled, and its numbers looked at, from its last four blocks to its first; the numbers of level one stay in place until they are read.
 use Prim.Native.Nat.{ℕ, _+_, _-_, _*_, _/_, _%_, _≤_, _<_}
 use mathlib.Core.Path.{_≡_}
+use mathlib.Core.Bool.{false}
+use mathlib.Core.Logic.{by-cases}
 use native.Mathlib.Omega.{arith}
+use native.Mathlib.Decide.{decLt}
 use native.Mathlib.Nat.{mul-le-mul-right}
+use Rattle.large_numbers.specs.Small.{Small}
+use Rattle.large_numbers.proofs.Small.{neither, small-part}
 use Rattle.inverse_levels.proofs.Filled.{filled-none}
 use Rattle.inverse_two.specs.Blocks.{BlocksCored}
 use Rattle.inverse_two.proofs.Places.{four-filled, left-of, free-row}
@@ -10,13 +15,13 @@ use Rattle.inverse_two.proofs.block_row.Statement.{statement}
 use Rattle.inverse_two.proofs.block_row.Tie as tie
 
 abbrev Inv-loop : tie.InvT-loop
-Inv-loop samples₀ y at b high from p w c₀ samples c = (c ≤ p) × BlocksCored p high samples₀ y (y + 1) c p samples
+Inv-loop samples₀ y at b high from p w large₀ c₀ samples large c = (c ≤ p) × BlocksCored p high samples₀ y (y + 1) c p samples × (large ≡ false → (i : ℕ) → c ≤ i → i < p → Small high (from + 240 * i) (from + 240 * i + 60))
 
 abbrev μ-loop : tie.MeasureT-loop
-μ-loop samples₀ y at b high from p w c₀ samples c = c
+μ-loop samples₀ y at b high from p w large₀ c₀ samples large c = c
 
 loop-holds : tie.Need-loop-holds Inv-loop μ-loop
-loop-holds c = (omega arith, filled-none _ _ _ _ (λ b h. absurd (omega (arith, h))))
+loop-holds c = (omega arith, filled-none _ _ _ _ (λ b h. absurd (omega (arith, h))), λ e i n m. absurd (omega arith))
 
 -- the place of the first high-pass number of the four blocks
 order : (y c W : ℕ) → y < 4 → 60 * y + 240 * c ≡ 240 * (y / 4 * W + c) + 60 * (y % 4)
@@ -53,14 +58,15 @@ loop-again c =
     let wide = s .pre .0 .0 in (
       omega (arith, l .loop .inv .0),
       left-of wide (s .args .high .now) y (y + 1) i (i + 1) (l .loop .c) W (omega arith) (omega (arith, h .loop-test, l .loop .inv .0)) (omega (arith, h .loop-test)) (free-row wide y i (i + 1) (l .loop .c) W (omega (arith, h .loop-test))) (l .loop .inv .1)
-          (four-filled wide y i _ _ _ (omega (arith, h .loop-test, l .loop .inv .0)) (omega (arith, p .0)) (omega (arith, p .1)) (omega (arith, p .2, order y i W (s .pre .0 .2))) (d .four-blocks .ensures)),
+          (four-filled wide y i _ _ _ (omega (arith, h .loop-test, l .loop .inv .0)) (omega (arith, p .0)) (omega (arith, p .1)) (omega (arith, p .2, order y i W (s .pre .0 .2))) (d .four-blocks .ensures .0)),
+      neither (λ right here k n m. by-cases (decLt k (l .loop .c)) (λ o. small-part (s .args .high .now) here (omega arith) (omega (arith, o))) (λ o. right k (omega (arith, o)) m)) (l .loop .inv .2) (d .four-blocks .ensures .1),
     )
 
 returns : tie.Need-returns Inv-loop μ-loop
 returns c =
     let l = c .before .loop in
     let e : l .c ≡ 0 = omega (arith, c .loop-test) in
-    rw e at (l .inv .1)
+    (rw e at (l .inv .1), λ h i. l .inv .2 h i (omega (arith, e)))
 
 pub block-row-spec : {M : Type 1} → statement M
 block-row-spec =

@@ -1,7 +1,7 @@
--- The rows of macroblocks from r on are transformed and their windows have run, and the places are those of row r; at the end the topmost row and the edges.
+-- The rows of macroblocks from r on are transformed, their windows have run and their high-pass numbers were looked at, and the places are those of row r; at the end the topmost row and the edges.
 use Prim.Native.Nat.{ℕ, _+_, _-_, _*_, _≤_, _<_}
 use mathlib.Core.Path.{_≡_, refl, _∙_}
-use mathlib.Core.Bool.{Bool}
+use mathlib.Core.Bool.{Bool, false}
 use mathlib.Core.Logic.{by-cases}
 use mathlib.Core.List.{List}
 use native.Mathlib.Omega.{arith}
@@ -13,6 +13,8 @@ use Rattle.picture.specs.Planes.{grid}
 use Rattle.picture.specs.Sizes.{macroblocks}
 use Rattle.picture.specs.declared.size.Size.{Size}
 use Rattle.grid.proofs.Rows.{row-inside, row-above}
+use Rattle.large_numbers.specs.Small.{Small}
+use Rattle.large_numbers.proofs.Small.{neither, small-none, small-join, small-within}
 use Rattle.inverse_two.specs.Blocks.{blockNumbers, cored}
 use Rattle.inverse_two.proofs.Windows.{squaresIf}
 use Rattle.inverse_two.proofs.Reached.{Reached, reached-none, reached-next, reached-all}
@@ -29,12 +31,13 @@ Up filtered size old high y v =
     Reached (4 * size .width .0) (4 * size .height .0) old (blocks size old high) (run (squaresIf filtered (4 * size .width .0) (4 * size .height .0)) (blocks size old high)) y v
 
 abbrev Inv-loop : tie.InvT-loop
-Inv-loop samples₀ filtered size high width w across down at₀ b₀ from₀ r₀ windows₀ samples at b from r windows =
+Inv-loop samples₀ filtered size high width w across down at₀ b₀ from₀ r₀ windows₀ large₀ samples at b from r windows large =
     (0 < r) × (r ≤ size .height .0) × (r < size .height .0 → windows ≡ 4) × (r ≡ size .height .0 → windows ≡ 3) × Up filtered size samples₀ high (4 * r) samples
     × (at ≡ r * (256 * size .width .0)) × (b ≡ r * (16 * size .width .0)) × (from ≡ r * (240 * size .width .0))
+    × (large ≡ false → Small high from (length high))
 
 abbrev μ-loop : tie.MeasureT-loop
-μ-loop samples₀ filtered size high width w across down at₀ b₀ from₀ r₀ windows₀ samples at b from r windows = r
+μ-loop samples₀ filtered size high width w across down at₀ b₀ from₀ r₀ windows₀ large₀ samples at b from r windows large = r
 
 -- the rows of windows that run after the next row of macroblocks
 module _ (l : tie.At-loop Inv-loop μ-loop) where
@@ -92,10 +95,11 @@ loop-again c =
       λ h. refl,
       λ h. absurd (omega (arith, h, v .0, v .1)),
       reached-next (s .pre .0 .wide) (H l) (s .args .samples .now) (s .args .high .now) (s .pre .1 .0) (s .args .filtered) (4 * (l .loop .r - 1)) (l .loop .windows) (4 * l .loop .r)
-          (omega (arith, v .0)) (omega (arith, v .1)) (room l) (upper l) (lowest l) (v .4) (rw below at (m .macroblock-row .ensures)) (f .windows-if .ensures),
+          (omega (arith, v .0)) (omega (arith, v .1)) (room l) (upper l) (lowest l) (v .4) (rw below at (m .macroblock-row .ensures .0)) (f .windows-if .ensures),
       omega (arith, v .5, up h),
       omega (arith, v .6, up h),
       omega (arith, v .7, up h),
+      neither (λ under here. small-join (s .args .high .now) (omega arith) here under) (v .8) (m .macroblock-row .ensures .1),
     )
 
 top-row-requires : tie.Need-top-row-requires Inv-loop μ-loop
@@ -141,16 +145,19 @@ returns c =
     let a = s .args in
     let wide = s .pre .0 .wide in
     let first : 4 * l .loop .r ≡ 4 = omega (arith, v .0) in
-    level-two-is (a .filtered) (a .size .width .0) (H l) wide (take (16 * macroblocks (a .size)) (a .samples .now)) (a .high .now)
-    (reached-all wide (H l) (a .samples .now) (a .high .now) (s .pre .1 .0) (a .filtered)
-    (reached-next wide (H l) (a .samples .now) (a .high .now) (s .pre .1 .0) (a .filtered) 0 (l .loop .windows) 4 (omega arith) (omega (arith, s .pre .0 .tall)) (omega (arith, room l, first))
-    (λ h. omega (arith, upper l (omega arith))) (λ h. omega (arith, lowest l (omega arith))) (rw first at (v .4)) (t .top-row .ensures) (f .windows-if2 .ensures)))
-    (e .edges-if .ensures)
+    let one : l .loop .r ≡ 1 = omega (arith, v .0) in (
+      level-two-is (a .filtered) (a .size .width .0) (H l) wide (take (16 * macroblocks (a .size)) (a .samples .now)) (a .high .now)
+          (reached-all wide (H l) (a .samples .now) (a .high .now) (s .pre .1 .0) (a .filtered)
+          (reached-next wide (H l) (a .samples .now) (a .high .now) (s .pre .1 .0) (a .filtered) 0 (l .loop .windows) 4 (omega arith) (omega (arith, s .pre .0 .tall)) (omega (arith, room l, first))
+          (λ h. omega (arith, upper l (omega arith))) (λ h. omega (arith, lowest l (omega arith))) (rw first at (v .4)) (t .top-row .ensures .0) (f .windows-if2 .ensures)))
+          (e .edges-if .ensures),
+      neither (λ under here. small-within (a .high .now) (small-join (a .high .now) (omega (arith, rw one at (v .7))) here under)) (v .8) (t .top-row .ensures .1),
+    )
 
 pub level-two-spec : {M : Type 1} → statement M
 level-two-spec =
     tie.close
     (tie.spec Inv-loop μ-loop (λ c. omega arith) (λ c. omega (arith, c .before .pre .0 .most-wide)) (λ c. omega (arith, c .before .pre .0 .most-wide)) (λ c. omega arith) (λ c. omega (arith, c .before .before .pre .0 .most-tall)) (λ c. omega arith)
-    (λ c. let s = c .before .before .before in (s .pre .0 .tall, omega arith, λ h. absurd (omega (arith, h)), λ h. refl, reached-none _ _ _ _ _, omega (arith, s .pre .1 .0), omega (arith, s .pre .1 .0), omega (arith, s .pre .1 .1)))
+    (λ c. let s = c .before .before .before in (s .pre .0 .tall, omega arith, λ h. absurd (omega (arith, h)), λ h. refl, reached-none _ _ _ _ _, omega (arith, s .pre .1 .0), omega (arith, s .pre .1 .0), omega (arith, s .pre .1 .1), λ e. small-none (s .args .high .now) (omega arith)))
     (λ c. omega arith) (λ c. omega (arith, start (c .before) .pre .0 .most-wide)) (λ c. omega (arith, c .before .loop .inv .5, up c)) (λ c. omega (arith, start (c .before) .pre .0 .most-wide)) (λ c. omega (arith, c .before .loop .inv .6, up c)) (λ c. omega (arith, start (c .before) .pre .0 .most-wide)) (λ c. omega (arith, c .before .loop .inv .7, up c)) macroblock-row-requires (λ c. let s = start (c .before .before .before .before .before) in omega (arith, c .before .before .before .before .before .loop .inv .1, s .pre .0 .most-tall)) windows-if-requires (λ c. omega arith) loop-again
     top-row-requires windows-if-requires-2 edges-if-requires same-length returns)

@@ -1,11 +1,14 @@
--- The rows of blocks from k on are filled; the three places go up by a row of blocks at each turn, and are at every turn those that are multiplied out.
+-- The rows of blocks from k on are filled and their numbers looked at; the three places go up by a row of blocks at each turn, and are at every turn those that are multiplied out.
 use Prim.Native.Nat.{ℕ, _+_, _-_, _*_, _/_, _%_, _≤_, _<_}
 use mathlib.Core.Path.{_≡_}
+use mathlib.Core.Bool.{false}
 use native.Mathlib.Omega.{arith}
 use native.Mathlib.Nat.{mul-le-mul-right}
 use lib.ListN.{length}
 use Rattle.picture.proofs.CheckLaws.{few}
 use Rattle.grid.proofs.Rows.{row-above}
+use Rattle.large_numbers.specs.Small.{Small}
+use Rattle.large_numbers.proofs.Small.{neither, small-none, small-join, small-part}
 use Rattle.inverse_levels.proofs.Filled.{filled-none}
 use Rattle.inverse_two.specs.Blocks.{BlocksCored}
 use Rattle.inverse_two.proofs.Places.{four-filled, above}
@@ -13,11 +16,12 @@ use Rattle.inverse_two.proofs.macroblock.Statement.{statement}
 use Rattle.inverse_two.proofs.macroblock.Tie as tie
 
 abbrev Inv-loop : tie.InvT-loop
-Inv-loop samples₀ r c at b high from p w to₀ number₀ next₀ k₀ samples to number next k =
+Inv-loop samples₀ r c at b high from p w to₀ number₀ next₀ large₀ k₀ samples to number next large k =
     (k ≤ 4) × (to ≡ at + k * (64 * p)) × (number ≡ b + k * (4 * p)) × (next ≡ from + 60 * k) × BlocksCored p high samples₀ (4 * r + k) (4 * r + 4) c (c + 1) samples
+    × (large ≡ false → Small high next (from + 240))
 
 abbrev μ-loop : tie.MeasureT-loop
-μ-loop samples₀ r c at b high from p w to₀ number₀ next₀ k₀ samples to number next k = k
+μ-loop samples₀ r c at b high from p w to₀ number₀ next₀ large₀ k₀ samples to number next large k = k
 
 at-most : (s : tie.Start Inv-loop μ-loop) → s .args .width .0 * s .args .r ≤ 216825
 at-most s = few (s .args .width .0) (s .args .r) (s .pre .0 .1) (omega (arith, s .pre .0 .2))
@@ -67,7 +71,7 @@ module _ (h : tie.In-loop Inv-loop μ-loop) where
   high-at = omega (arith, l .loop .inv .3, h .loop-test, s .pre .1 .0 .2)
 
 loop-holds : tie.Need-loop-holds Inv-loop μ-loop
-loop-holds c = (omega arith, omega arith, omega arith, omega arith, filled-none _ _ _ _ (λ b h. absurd (omega (arith, h))))
+loop-holds c = (omega arith, omega arith, omega arith, omega arith, filled-none _ _ _ _ (λ b h. absurd (omega (arith, h))), λ e. small-none (c .before .args .high .now) (omega arith))
 
 four-blocks-requires : tie.Need-four-blocks-requires Inv-loop μ-loop
 four-blocks-requires c κs =
@@ -92,7 +96,8 @@ loop-again c =
       omega (arith, v .2, up h),
       omega (arith, v .3, h .loop-test),
       above wide (a .high .now) y (y + 1) (4 * a .r + l h .loop .k) (4 * a .r + 4) (a .c) (a .c + 1) (omega arith) (omega (arith, low h)) (omega (arith, h .loop-test)) (v .4)
-          (four-filled wide y (a .c) _ _ _ (s h .pre .0 .0) (omega (arith, samples-at h)) (omega (arith, numbers-at h)) (omega (arith, high-at h, order (a .r) (j h) (a .c) (W h) (low h))) (d .four-blocks .ensures)),
+          (four-filled wide y (a .c) _ _ _ (s h .pre .0 .0) (omega (arith, samples-at h)) (omega (arith, numbers-at h)) (omega (arith, high-at h, order (a .r) (j h) (a .c) (W h) (low h))) (d .four-blocks .ensures .0)),
+      neither (λ below here. small-join (a .high .now) (omega arith) here below) (v .5) (d .four-blocks .ensures .1),
     )
 
 returns : tie.Need-returns Inv-loop μ-loop
@@ -100,7 +105,7 @@ returns c =
     let l = c .before .loop in
     let s = c .before .before .before in
     let e : 4 * s .args .r + l .k ≡ 4 * s .args .r = omega (arith, c .loop-test) in
-    rw e at (l .inv .4)
+    (rw e at (l .inv .4), λ h. small-part (s .args .high .now) (l .inv .5 h) (omega (arith, l .inv .3, c .loop-test)) (omega arith))
 
 pub macroblock-spec : {M : Type 1} → statement M
 macroblock-spec =

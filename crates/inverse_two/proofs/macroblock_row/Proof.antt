@@ -1,8 +1,11 @@
--- The macroblocks from c on are filled, from the last to the first; the row's numbers of level one lie above it.
+-- The macroblocks from c on are filled and their numbers looked at, from the last to the first; the row's numbers of level one lie above it.
 use Prim.Native.Nat.{_+_, _-_, _*_, _≤_}
 use mathlib.Core.Path.{_≡_}
+use mathlib.Core.Bool.{false}
 use native.Mathlib.Omega.{arith}
 use Rattle.picture.proofs.CheckLaws.{few}
+use Rattle.large_numbers.specs.Small.{Small}
+use Rattle.large_numbers.proofs.Small.{neither, small-none, small-join, small-part}
 use Rattle.inverse_levels.proofs.Filled.{filled-none}
 use Rattle.inverse_two.specs.Blocks.{BlocksCored}
 use Rattle.inverse_two.proofs.Places.{blocks-all, left-of, free-below}
@@ -10,10 +13,10 @@ use Rattle.inverse_two.proofs.macroblock_row.Statement.{statement}
 use Rattle.inverse_two.proofs.macroblock_row.Tie as tie
 
 abbrev Inv-loop : tie.InvT-loop
-Inv-loop samples₀ width r at b high from p c₀ samples c = (c ≤ p) × BlocksCored p high samples₀ (4 * r) (4 * r + 4) c p samples
+Inv-loop samples₀ width r at b high from p large₀ c₀ samples large c = (c ≤ p) × BlocksCored p high samples₀ (4 * r) (4 * r + 4) c p samples × (large ≡ false → Small high (from + 240 * c) (from + 240 * p))
 
 abbrev μ-loop : tie.MeasureT-loop
-μ-loop samples₀ width r at b high from p c₀ samples c = c
+μ-loop samples₀ width r at b high from p large₀ c₀ samples large c = c
 
 at-most : (s : tie.Start Inv-loop μ-loop) → s .args .width .0 * s .args .r ≤ 216825
 at-most s = few (s .args .width .0) (s .args .r) (s .pre .0 .1) (omega (arith, s .pre .0 .3))
@@ -26,7 +29,7 @@ inside h =
     (omega (arith, h .before .loop .inv .0, s .pre .0 .1), omega (arith, at-most s, p .0), omega (arith, at-most s, p .1), omega (arith, at-most s, p .2))
 
 loop-holds : tie.Need-loop-holds Inv-loop μ-loop
-loop-holds c = (omega arith, filled-none _ _ _ _ (λ b h. absurd (omega (arith, h))))
+loop-holds c = (omega arith, filled-none _ _ _ _ (λ b h. absurd (omega (arith, h))), λ e. small-none (c .before .args .high .now) (omega arith))
 
 macroblock-requires : tie.Need-macroblock-requires Inv-loop μ-loop
 macroblock-requires c κs =
@@ -46,7 +49,8 @@ loop-again c =
     let i = l .loop .c - 1 in (
       omega (arith, l .loop .inv .0),
       left-of (s .pre .0 .0) (s .args .high .now) y (y + 4) i (i + 1) (l .loop .c) (s .args .width .0) (omega arith) (omega (arith, h .loop-test, l .loop .inv .0)) (omega (arith, h .loop-test))
-          (free-below (s .pre .0 .0) y (y + 4) i (i + 1) (l .loop .c) (s .args .width .0) (omega (arith, s .pre .0 .2))) (l .loop .inv .1) (d .macroblock .ensures),
+          (free-below (s .pre .0 .0) y (y + 4) i (i + 1) (l .loop .c) (s .args .width .0) (omega (arith, s .pre .0 .2))) (l .loop .inv .1) (d .macroblock .ensures .0),
+      neither (λ right here. small-join (s .args .high .now) (omega (arith, h .loop-test)) here right) (l .loop .inv .2) (d .macroblock .ensures .1),
     )
 
 returns : tie.Need-returns Inv-loop μ-loop
@@ -54,7 +58,7 @@ returns c =
     let l = c .before .loop in
     let s = c .before .before .before in
     let e : l .c ≡ 0 = omega (arith, c .loop-test) in
-    blocks-all (s .pre .0 .0) (s .args .high .now) (4 * s .args .r) (4 * s .args .r + 4) (rw e at (l .inv .1))
+    (blocks-all (s .pre .0 .0) (s .args .high .now) (4 * s .args .r) (4 * s .args .r + 4) (rw e at (l .inv .1)), λ h. small-part (s .args .high .now) (l .inv .2 h) (omega (arith, e)) (omega arith))
 
 pub macroblock-row-spec : {M : Type 1} → statement M
 macroblock-row-spec =

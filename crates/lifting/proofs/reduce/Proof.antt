@@ -1,7 +1,6 @@
 -- By cases: too large, too small, or in the range already.
-use mathlib.Core.Path.{_≡_, sym, ap, _∙_}
+use mathlib.Core.Path.{sym}
 use lib.IntN.{pos, _+ℤ_, _-ℤ_}
-use mir.Val.{toZ, ofZ}
 use mir.Syntax.{w32, w64}
 use mir.ValLaws.{toZ-ofZ}
 use Rattle.lifting.proofs.Bits.{high, low, mid, widen, Fit}

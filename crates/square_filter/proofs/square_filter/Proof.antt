@@ -13,8 +13,8 @@ returns c5 =
     let c2 = c3 .before in
     let c1 = c2 .before in
     c5 .mirrored .ensures
-    ∙ mirrored-run _ _ _ _ (c4 .post-hadamards .ensures)
-    ∙ ap (run last) (c3 .crossed .ensures ∙ ap (run crossedStage) (mirrored-run _ _ _ _ (c2 .hadamards .ensures .0) ∙ ap (run first) (c1 .split .ensures)))
+    ∙ mirrored-run _ _ _ _ (c4 .post-hadamards .ensures) .0
+    ∙ ap (run last) (c3 .crossed .ensures ∙ ap (run crossedStage) (mirrored-run _ _ _ _ (c2 .hadamards .ensures .0) .0 ∙ ap (run first) (c1 .split .ensures)))
     ∙ stages-run _
 
 pub square-filter-spec : {M : Type 1} → statement M

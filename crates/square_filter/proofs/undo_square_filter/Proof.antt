@@ -13,8 +13,8 @@ returns c5 =
     let c2 = c3 .before in
     let c1 = c2 .before in
     c5 .mirrored .ensures
-    ∙ mirrored-undo _ _ _ _ (c4 .hadamards .ensures .1)
-    ∙ ap (undo first) (c3 .undo-crossed .ensures ∙ ap (undo crossedStage) (mirrored-undo _ _ _ _ (c2 .undo-post-hadamards .ensures) ∙ ap (undo last) (c1 .split .ensures)))
+    ∙ mirrored-undo _ _ _ _ (c4 .hadamards .ensures .1) .0
+    ∙ ap (undo first) (c3 .undo-crossed .ensures ∙ ap (undo crossedStage) (mirrored-undo _ _ _ _ (c2 .undo-post-hadamards .ensures) .0 ∙ ap (undo last) (c1 .split .ensures)))
     ∙ stages-undo _
 
 pub undo-square-filter-spec : {M : Type 1} → statement M

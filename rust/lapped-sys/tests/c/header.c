@@ -13,6 +13,8 @@ static void print_layout(void) {
     printf("steps %u: %u %u %u\n", (unsigned)sizeof(lapped_steps),
            (unsigned)offsetof(lapped_steps, dc), (unsigned)offsetof(lapped_steps, low),
            (unsigned)offsetof(lapped_steps, high));
+    printf("answer %u: %u %u\n", (unsigned)sizeof(lapped_answer),
+           (unsigned)offsetof(lapped_answer, number), (unsigned)offsetof(lapped_answer, wrapped));
     printf("header %u: %u %u %u\n", (unsigned)sizeof(lapped_header),
            (unsigned)offsetof(lapped_header, number), (unsigned)offsetof(lapped_header, mode),
            (unsigned)offsetof(lapped_header, size));
@@ -31,8 +33,8 @@ static void print_modes(void) {
     printf("modes %d %d %d\n", modes[0], modes[1], modes[2]);
 }
 
-static void print_answers(void) {
-    const lapped_answer answers[] = {LAPPED_DONE,
+static void print_numbers(void) {
+    const lapped_number numbers[] = {LAPPED_DONE,
                                      LAPPED_REFUSED_MODE,
                                      LAPPED_REFUSED_WIDTH,
                                      LAPPED_REFUSED_HEIGHT,
@@ -48,8 +50,8 @@ static void print_answers(void) {
                                      LAPPED_REFUSED_TOO_MANY_MACROBLOCKS,
                                      LAPPED_REFUSED_STEP_INDEX,
                                      LAPPED_REFUSED_PRODUCT};
-    for (size_t i = 0; i < sizeof answers / sizeof *answers; i++)
-        printf("answer %d: %s\n", answers[i], lapped_message((uint32_t)answers[i]));
+    for (size_t i = 0; i < sizeof numbers / sizeof *numbers; i++)
+        printf("number %d: %s\n", numbers[i], lapped_message((uint32_t)numbers[i]));
     printf("16: %s\n4294967295: %s\n", lapped_message(16), lapped_message(UINT32_MAX));
 }
 
@@ -70,7 +72,7 @@ int main(void) {
     print_version();
     print_layout();
     print_modes();
-    print_answers();
+    print_numbers();
     print_lengths();
     return 0;
 }

@@ -3,8 +3,9 @@
 
 pub mod raw;
 pub mod refusals;
+pub mod traced;
 
-use lapped::{Mode, PlanesMut, PlanesRef, Size};
+use lapped::{Mode, Planes, PlanesMut, PlanesRef, Size, Wrapped};
 use lapped_sys::lapped_size;
 use reference::random::{Random, Values};
 use std::fmt::Debug;
@@ -62,6 +63,35 @@ pub fn view_of(mode: Mode, size: Size, planes: &[Vec<i32>; 3]) -> Vec<i32> {
     let mut view = vec![0; size.view_samples()];
     lapped::quarter_view(mode, size, planes_ref(planes), &mut view).unwrap();
     view
+}
+
+/// The library tells this of the inverse of planes and of the forward transform of their samples, and
+/// of the quarter view it tells what the reference does. A law: a sum wraps on one way if and only if
+/// one wraps on the other.
+pub fn assert_told_of_planes(
+    mode: u32,
+    size: Size,
+    planes: &[Vec<i32>; 3],
+    expected: bool,
+    what: &str,
+) {
+    let number = mode;
+    let mode = Mode::try_from(mode).unwrap();
+    let expected = Wrapped::from(expected);
+    let mut samples = vec![0; size.samples()];
+    let answer = lapped::inverse(mode, size, planes_ref(planes), &mut samples);
+    assert_eq!(answer, Ok(expected), "inverse: {what}");
+
+    let mut back = Planes::zeroed(size);
+    let answer = lapped::forward(mode, size, &samples, back.as_mut());
+    assert_eq!(answer, Ok(expected), "forward: {what}");
+    assert_eq!(back.as_ref(), planes_ref(planes), "{what}");
+
+    let mut view = vec![0; size.view_samples()];
+    let answer = lapped::quarter_view(mode, size, planes_ref(planes), &mut view);
+    let [dc, low, _] = planes;
+    let told = reference::quarter_view(number, reference_size(size), dc, low, &mut view);
+    assert_eq!(answer.map(bool::from).map_err(|refusal| refusal.number()), told, "view: {what}");
 }
 
 const MARGIN: usize = 64;

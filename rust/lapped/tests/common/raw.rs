@@ -1,7 +1,9 @@
 //! The functions of the C interface on slices, with any mode, size, steps, tolerance and lengths, and
 //! their numbers.
 
-use lapped_sys::{lapped_found, lapped_header, lapped_size, lapped_steps, lapped_work};
+use lapped_sys::{
+    lapped_answer, lapped_found, lapped_header, lapped_size, lapped_steps, lapped_work,
+};
 
 /// Calls a function with plain arguments, then slices that it reads, then slices that it writes.
 macro_rules! call {
@@ -17,17 +19,17 @@ macro_rules! call {
     };
 }
 
-pub fn inverse(mode: u32, size: lapped_size, slices: [&mut [i32]; 4]) -> u32 {
+pub fn inverse(mode: u32, size: lapped_size, slices: [&mut [i32]; 4]) -> lapped_answer {
     let [dc, low, high, samples] = slices;
     call!(lapped_inverse(mode, size); dc, low, high; samples)
 }
 
-pub fn quarter(mode: u32, size: lapped_size, slices: [&mut [i32]; 3]) -> u32 {
+pub fn quarter(mode: u32, size: lapped_size, slices: [&mut [i32]; 3]) -> lapped_answer {
     let [dc, low, view] = slices;
     call!(lapped_quarter(mode, size); dc, low; view)
 }
 
-pub fn forward(mode: u32, size: lapped_size, slices: [&mut [i32]; 4]) -> u32 {
+pub fn forward(mode: u32, size: lapped_size, slices: [&mut [i32]; 4]) -> lapped_answer {
     let [samples, dc, low, high] = slices;
     call!(lapped_forward(mode, size); samples; dc, low, high)
 }

@@ -1,7 +1,7 @@
 //! Faulty arguments, each alone and all together, and that they are refused with nothing changed.
 
 use super::{any, lend_filled_bytes, lend_numbers, raw_size, slices, Lent};
-use lapped_sys::lapped_size;
+use lapped_sys::{lapped_answer, lapped_size};
 use reference::random::{Random, Values};
 
 /// A check of a call, by its number. A call that reads planes and writes others makes the checks 4, 5
@@ -199,6 +199,12 @@ pub fn refused_arguments(
 
 /// A call with its arguments, the slices of numbers that they are about, and bytes.
 type Call<Answer, const N: usize> = fn(Arguments, [&mut [i32]; N], &mut [u8]) -> Answer;
+
+/// The number of a refused call of the transform, which tells of no wrap, whatever it is lent.
+pub fn number_of(answer: lapped_answer) -> u32 {
+    assert!(!answer.wrapped, "refused with {}", answer.number);
+    answer.number
+}
 
 /// A call of the C interface and the reference's, with what is lent to them.
 pub struct Operation<const N: usize> {

@@ -1,10 +1,12 @@
 -- The uses of the stage from the last to the first, each by what its call ensures.
-use mathlib.Core.Path.{ap}
+use mathlib.Core.Path.{ap, refl}
+use mathlib.Core.Bool.{true}
 use Rattle.lifting.specs.Program.{get, put}
+use Rattle.lifting.proofs.Traces.{_◂_, at-start, undone}
 use Rattle.figures.specs.Pieces.{crossedStage}
 use Rattle.blocks.specs.Quads.{mirrored}
 use Rattle.figures.proofs.Parts.{told, pair, four}
-use Rattle.blocks.proofs.Blocks.{quads, undone, _◃_, unended}
+use Rattle.blocks.proofs.Blocks.{quads}
 use Rattle.square_filter.proofs.filter_stages.undo_crossed.Statement.{statement}
 use Rattle.square_filter.proofs.filter_stages.undo_crossed.Tie as tie
 
@@ -56,17 +58,18 @@ returns c45 =
     let c2 = c3 .before in
     let c1 = c2 .before in
     let v = c1 .before .before .before .before .before .args .v in
-    undone crossedStage _
-    (unended (ap mirrored (quads v (told _ (c10 .struct-told7 .given)) (told _ (c7 .struct-told5 .given)) (told _ (c4 .struct-told3 .given)) (told _ (c1 .struct-told .given))))
-    ◃ pair (c13 .struct-told9 .given) (c3 .undo-scale .ensures)
-    ◃ pair (c14 .struct-told10 .given) (c6 .undo-scale2 .ensures)
-    ◃ pair (c15 .struct-told11 .given) (c9 .undo-scale3 .ensures)
-    ◃ pair (c16 .struct-told12 .given) (c12 .undo-scale4 .ensures)
-    ◃ four (c33 .struct-told24 .given) (c17 .undo-post-odd-odd .ensures)
-    ◃ pair (c35 .struct-told26 .given) (c20 .undo-rotation .ensures)
-    ◃ pair (c31 .struct-told22 .given) (c23 .undo-rotation2 .ensures)
-    ◃ pair (c40 .struct-told31 .given) (c26 .undo-rotation3 .ensures)
-    ◃ pair (c32 .struct-told23 .given) (c29 .undo-rotation4 .ensures))
+    let done = undone true crossedStage _ (ap mirrored (quads v (told _ (c10 .struct-told7 .given)) (told _ (c7 .struct-told5 .given)) (told _ (c4 .struct-told3 .given)) (told _ (c1 .struct-told .given))))
+    (at-start
+    ◂ (pair (c13 .struct-told9 .given) (c3 .undo-scale .ensures), refl)
+    ◂ (pair (c14 .struct-told10 .given) (c6 .undo-scale2 .ensures), refl)
+    ◂ (pair (c15 .struct-told11 .given) (c9 .undo-scale3 .ensures), refl)
+    ◂ (pair (c16 .struct-told12 .given) (c12 .undo-scale4 .ensures), refl)
+    ◂ (four (c33 .struct-told24 .given) (c17 .undo-post-odd-odd .ensures), refl)
+    ◂ (pair (c35 .struct-told26 .given) (c20 .undo-rotation .ensures), refl)
+    ◂ (pair (c31 .struct-told22 .given) (c23 .undo-rotation2 .ensures), refl)
+    ◂ (pair (c40 .struct-told31 .given) (c26 .undo-rotation3 .ensures), refl)
+    ◂ (pair (c32 .struct-told23 .given) (c29 .undo-rotation4 .ensures), refl)) in
+    done .0
 
 pub undo-crossed-spec : {M : Type 1} → statement M
 undo-crossed-spec = tie.close (tie.spec (λ c κs. tt) (λ c κs. tt) (λ c κs. tt) (λ c κs. tt) (λ c κs. tt) (λ c κs. tt) (λ c κs. tt) (λ c κs. tt) (λ c κs. tt) returns)

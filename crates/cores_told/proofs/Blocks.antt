@@ -1,0 +1,76 @@
+-- Cores of a whole grid, told block by block: each law joins what the code reads of a block with the block that the grid has there.
+use Prim.Native.Nat.{ℕ, zero, suc, _+_, _-_, _*_, _/_, _%_, _≤_, _<_}
+use mathlib.Core.Path.{_≡_, refl, sym, _∙_, ap}
+use mathlib.Core.Bool.{Bool}
+use mathlib.Core.List.{List}
+use native.Mathlib.Omega.{arith}
+use native.Mathlib.Nat.{le-refl, mul-le-mul}
+use lib.IntN.{ℤ}
+use Rattle.lifting.specs.Program.{at}
+use Rattle.lifting.specs.Tests.{any}
+use Rattle.lifting.specs.Wraps.{wraps}
+use Rattle.lifting.proofs.Tests.{any-same}
+use Rattle.figures.specs.Figures.{core}
+use Rattle.picture.specs.Level.{cores}
+use Rattle.picture.specs.declared.size.Size.{Size}
+use Rattle.picture.specs.Sizes.{Sized, macroblocks}
+use Rattle.picture.specs.Planes.{table, coefficients, blockOrder, firstGrid, secondGrid, grid}
+use Rattle.picture.proofs.Geometry.{order-low, block-of-order}
+use Rattle.picture.proofs.Grid.{at-first}
+use Rattle.picture.proofs.Told.{cores-of-grid}
+
+-- a block by its coefficient 0 and by the plane and the place of the others
+abbrev pub blockWraps : ℤ → List ℤ → ℕ → Bool
+blockWraps x rest from = wraps core (table 16 (coefficients x (λ k. at rest (from + k))))
+
+-- the coefficient 0 of block t, where those of a macroblock's sixteen blocks are its DC and low-pass numbers
+abbrev pub heldZero : List ℤ → List ℤ → ℕ → ℤ
+heldZero dc low t = coefficients (at dc (t / 16)) (λ k. at low (15 * (t / 16) + k)) (t % 16)
+
+-- ---- numbers of 64 bits
+
+pub order-fits : {p b : ℕ} → 0 < p → p ≤ 525 → b < 16 * (p * 413) → blockOrder p b < 3469200
+order-fits {p} {b} wide h l = omega (arith, order-low wide 413 b l)
+
+-- a block of a picture, and the place of its numbers in the high-pass plane
+pub block-in : {size : Size} → Sized size → {b : ℕ} → b < 16 * macroblocks size → (b < 16 * (size .width .0 * 413)) × (blockOrder (size .width .0) b < 16 * macroblocks size)
+block-in {size} s {b} h =
+    let m : size .width .0 * size .height .0 ≤ size .width .0 * 413 = mul-le-mul (le-refl _) (s .most-tall) in
+    (omega (arith, m), order-low (s .wide) (size .height .0) b h)
+
+-- ---- coefficient 0, or one of the others
+
+pub first-coefficient : (x : ℤ) (f : ℕ → ℤ) (k : ℕ) → k ≡ 0 → x ≡ coefficients x f k
+first-coefficient x f zero e = refl
+first-coefficient x f (suc k) e = absurd (omega arith)
+
+pub later-coefficient : (x : ℤ) (f : ℕ → ℤ) (k : ℕ) → (k ≡ 0 → ⊥) → f (k - 1) ≡ coefficients x f k
+later-coefficient x f zero h = absurd (h refl)
+later-coefficient x f (suc k) h = let e : suc k - 1 ≡ k = omega arith in ap f e
+
+-- ---- the cores of the two levels
+
+module _ {W : ℕ} (wide : 0 < W) (H : ℕ) where
+  pub first-told : (dc low : List ℤ) → wraps (cores W H) (firstGrid W H dc low) ≡ any (W * H) (λ m. blockWraps (at dc m) low (15 * m))
+  unfolding firstGrid
+  first-told dc low = cores-of-grid W H _ wide
+
+  pub second-told : (view high : List ℤ) → wraps (cores (4 * W) (4 * H)) (secondGrid W H view high) ≡ any (16 * (W * H)) (λ b. blockWraps (at view b) high (15 * blockOrder W b))
+  unfolding secondGrid
+  second-told view high =
+      let l : 0 < 4 * W = omega arith in
+      let e : 4 * W * (4 * H) ≡ 16 * (W * H) = omega arith in
+      cores-of-grid (4 * W) (4 * H) _ l ∙ ap (λ (n : ℕ). any n (λ b. blockWraps (at view b) high (15 * blockOrder W b))) e
+
+  -- the same where the numbers of level one lie in DC and low-pass
+  pub held-told : (dc low high : List ℤ)
+      → wraps (cores (4 * W) (4 * H)) (secondGrid W H (firstGrid W H dc low) high) ≡ any (16 * (W * H)) (λ b. blockWraps (heldZero dc low (blockOrder W b)) high (15 * blockOrder W b))
+  held-told dc low high =
+      second-told (firstGrid W H dc low) high
+      ∙ any-same (16 * (W * H)) _ _ (λ b h. ap (λ x. blockWraps x high (15 * blockOrder W b)) (sym (held-zero b h)))
+    where
+      held-zero : (b : ℕ) → b < 16 * (W * H) → heldZero dc low (blockOrder W b) ≡ at (firstGrid W H dc low) b
+      held-zero b h =
+          let t = blockOrder W b in
+          let l = order-low wide H b h in
+          sym (at-first wide H dc low (t / 16) (t % 16) (omega arith) (omega arith)) ∙ ap (at (firstGrid W H dc low)) (block-of-order wide b)

@@ -1,0 +1,15 @@
+-- Numbers of a row that are not large, and that are of 32 bits.
+use Prim.Native.Nat.{ℕ, _≤_, _<_}
+use mathlib.Core.List.{List}
+use lib.IntN.{ℤ, natAbs}
+use mir.Val.{SFits}
+use mir.Syntax.{w32}
+use Rattle.lifting.specs.Program.{at}
+
+-- from place a up to place b, no number is above 2^25 in magnitude
+abbrev pub Small : List ℤ → ℕ → ℕ → Type 0
+Small v a b = (i : ℕ) → a ≤ i → i < b → natAbs (at v i) ≤ 33554432
+
+-- from place a up to place b, each number is in the signed 32-bit range
+abbrev pub Fit : List ℤ → ℕ → ℕ → Type 0
+Fit v a b = (i : ℕ) → a ≤ i → i < b → SFits w32 (at v i)
