@@ -42,7 +42,8 @@ pub fn level_one_told(view: &mut [i32], filtered: bool, size: Size, dc: &[i32], 
     false
 }
 
-// Level two, whose cores are judged before it runs, for it overwrites what level one left.
+// Level two, whose cores are judged before it runs, for it overwrites what level one left. It looks at its numbers itself: whoever has looked at them knows that they are
+// of 32 bits, and only then do filters wrap as they do when they are undone.
 fn level_two_told(samples: &mut [i32], filtered: bool, size: Size, high: &[i32]) -> bool
     requires { ⌜ Sized size ⌝ }
     requires { ⌜ length (now samples) ≡ 256 * macroblocks size ⌝ }
