@@ -14,7 +14,7 @@ use Rattle.figures.specs.Figures.{core}
 use Rattle.picture.specs.Level.{cores}
 use Rattle.picture.specs.declared.size.Size.{Size}
 use Rattle.picture.specs.Sizes.{Sized, macroblocks}
-use Rattle.picture.specs.Planes.{table, coefficients, blockOrder, firstGrid, secondGrid, grid}
+use Rattle.picture.specs.Planes.{table, coefficients, blockOrder, firstGrid, secondGrid}
 use Rattle.picture.proofs.Geometry.{order-low, block-of-order}
 use Rattle.picture.proofs.Grid.{at-first}
 use Rattle.picture.proofs.Told.{cores-of-grid}

@@ -5,11 +5,10 @@ use mathlib.Core.Bool.{Bool, true, false, _||_}
 use mathlib.Core.List.{List}
 use native.Mathlib.Omega.{arith}
 use lib.IntN.{ℤ}
-use Rattle.lifting.specs.Program.{run, _then_}
+use Rattle.lifting.specs.Program.{run}
 use Rattle.lifting.specs.Row.{Row}
 use Rattle.lifting.specs.Wraps.{wraps, undoWraps, Within}
 use Rattle.lifting.proofs.NoWrap.{wraps-then}
-use Rattle.lifting.proofs.Reverse.{row-run}
 use Rattle.picture.specs.Level.{cores, filtersIf, level}
 use Rattle.picture.specs.Planes.{firstGrid, secondGrid}
 use Rattle.picture.proofs.Grid.{row-first, row-second}

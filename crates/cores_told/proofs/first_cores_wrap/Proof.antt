@@ -8,7 +8,6 @@ use lib.ListN.{length}
 use Rattle.lifting.specs.Program.{at}
 use Rattle.lifting.proofs.Bits.{back}
 use Rattle.lifting.proofs.Tests.{None, none-yet, none-more, any-yes, any-none}
-use Rattle.picture.proofs.CheckLaws.{few-macroblocks}
 use Rattle.cores_told.proofs.Blocks.{blockWraps, first-told}
 use Rattle.cores_told.proofs.first_cores_wrap.Statement.{statement}
 use Rattle.cores_told.proofs.first_cores_wrap.Tie as tie

@@ -1,5 +1,5 @@
 -- Level two undone, and what it leaves looked at: where nothing is large nothing wraps, and else both levels are judged.
-use mathlib.Core.Path.{_≡_, sym, _∙_}
+use mathlib.Core.Path.{_∙_}
 use mathlib.Core.Bool.{_||_}
 use borrow.Author.Needs.{needs}
 use native.Mathlib.Omega.{arith}

@@ -1,7 +1,6 @@
 -- The looks find nothing large, and nothing wraps; or the filters were judged before they were undone, and the cores are after it.
-use Prim.Native.Nat.{ℕ, _*_}
-use mathlib.Core.Path.{_≡_, refl, sym, _∙_}
-use native.Mathlib.Omega.{arith}
+use Prim.Native.Nat.{_*_}
+use mathlib.Core.Path.{refl, sym, _∙_}
 use borrow.Author.Needs.{needs}
 use Rattle.lifting.specs.Row.{Row}
 use Rattle.lifting.proofs.Tests.{or-no}

@@ -1,9 +1,8 @@
 -- The look at the samples finds nothing large, and nothing wraps; or the cores are judged, and then the filters.
-use Prim.Native.Nat.{ℕ, _*_, _<_}
-use mathlib.Core.Path.{_≡_, sym, _∙_}
+use Prim.Native.Nat.{_*_, _<_}
+use mathlib.Core.Path.{sym, _∙_}
 use native.Mathlib.Omega.{arith}
 use borrow.Author.Needs.{needs}
-use lib.ListN.{length}
 use Rattle.lifting.specs.Row.{Row}
 use Rattle.forward.proofs.Judged.{calm, core-wraps, filter-wraps, row-as}
 use Rattle.forward.proofs.told.level_two_wraps.Statement.{statement}

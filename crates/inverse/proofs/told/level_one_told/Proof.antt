@@ -1,9 +1,8 @@
 -- The looks find nothing large, and nothing wraps; or the cores are judged, and then the filters.
-use mathlib.Core.Path.{_≡_, sym, _∙_}
+use mathlib.Core.Path.{sym, _∙_}
 use native.Mathlib.Omega.{arith}
 use borrow.Author.Needs.{needs}
 use Rattle.lifting.proofs.Tests.{or-no}
-use Rattle.picture.proofs.CheckLaws.{few-macroblocks}
 use Rattle.inverse.proofs.Judged.{core-wraps, first-calm, first-filter-wraps, row-as}
 use Rattle.inverse.proofs.told.level_one_told.Statement.{statement}
 use Rattle.inverse.proofs.told.level_one_told.Tie as tie
