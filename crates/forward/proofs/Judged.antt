@@ -1,6 +1,6 @@
 -- A level that is undone, judged in parts: where no number is large, nothing wraps; else a filter does, or a core, from the coefficients that it was undone to.
 use Prim.Native.Nat.{ℕ, _*_, _<_}
-use mathlib.Core.Path.{_≡_, refl, sym, _∙_, ap, subst}
+use mathlib.Core.Path.{_≡_, refl, sym, _∙_, ap}
 use mathlib.Core.Bool.{Bool, true, false, or-comm, _||_}
 use mathlib.Core.List.{List}
 use lib.IntN.{ℤ}
@@ -27,7 +27,3 @@ module _ (filtered : Bool) {p q : ℕ} (wide : 0 < p) (tall : 0 < q) {v : List �
 
     pub filter-wraps : false ≡ wraps (cores p q) g → {a : Bool} → a ≡ undoWraps (filtersIf filtered p q) v → a ≡ undoWraps (level filtered p q) v
     filter-wraps e {a} f = or-comm false a ∙ judged f e
-
--- the length of a row in other words
-pub row-as : {n m : ℕ} {v : List ℤ} → Row n v → n ≡ m → Row m v
-row-as {v = v} r e = subst (λ (k : ℕ). Row k v) e r

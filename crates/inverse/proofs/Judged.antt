@@ -50,7 +50,3 @@ module _ (filtered : Bool) {W H : ℕ} (wide : 0 < W) (tall : 0 < H) where
       let l : 0 < 4 * H = omega arith in
       let n : 256 * (W * H) ≡ 16 * (4 * W * (4 * H)) = omega arith in
       filter-wraps filtered (4 * W) (4 * H) _ w l (subst (λ (m : ℕ). Row m (secondGrid W H view high)) n (row-second W H r t)) e h k
-
--- the length of a row in other words
-pub row-as : {n m : ℕ} {v : List ℤ} → Row n v → n ≡ m → Row m v
-row-as {v = v} r e = subst (λ (k : ℕ). Row k v) e r

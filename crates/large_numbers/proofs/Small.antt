@@ -76,3 +76,7 @@ small-within v p = record { within = λ i. by-cases (decLt i (length v)) (λ h. 
 
 pub fit-row : (v : List ℤ) → Fit v 0 (length v) → Row (length v) v
 fit-row v f = row-of v (λ i l. f i (omega arith) l)
+
+-- a row's length in other words
+pub row-as : {n m : ℕ} {v : List ℤ} → Row n v → n ≡ m → Row m v
+row-as {v = v} r e = subst (λ (k : ℕ). Row k v) e r

@@ -7,7 +7,8 @@ use Rattle.lifting.proofs.Tests.{or-no}
 use Rattle.picture.proofs.Grid.{row-first}
 use Rattle.picture.proofs.NoWrap.{first-within}
 use Rattle.forward_one_grid.specs.Held.{numbers}
-use Rattle.forward.proofs.Judged.{calm, judged, row-as}
+use Rattle.large_numbers.proofs.Small.{row-as}
+use Rattle.forward.proofs.Judged.{calm, judged}
 use Rattle.forward.proofs.told.level_one_told.Statement.{statement}
 use Rattle.forward.proofs.told.level_one_told.Tie as tie
 

@@ -4,7 +4,8 @@ use mathlib.Core.Path.{sym, _∙_}
 use native.Mathlib.Omega.{arith}
 use borrow.Author.Needs.{needs}
 use Rattle.lifting.specs.Row.{Row}
-use Rattle.forward.proofs.Judged.{calm, core-wraps, filter-wraps, row-as}
+use Rattle.large_numbers.proofs.Small.{row-as}
+use Rattle.forward.proofs.Judged.{calm, core-wraps, filter-wraps}
 use Rattle.forward.proofs.told.level_two_wraps.Statement.{statement}
 use Rattle.forward.proofs.told.level_two_wraps.Tie as tie
 

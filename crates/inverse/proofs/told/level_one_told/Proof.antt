@@ -3,7 +3,8 @@ use mathlib.Core.Path.{sym, _∙_}
 use native.Mathlib.Omega.{arith}
 use borrow.Author.Needs.{needs}
 use Rattle.lifting.proofs.Tests.{or-no}
-use Rattle.inverse.proofs.Judged.{core-wraps, first-calm, first-filter-wraps, row-as}
+use Rattle.large_numbers.proofs.Small.{row-as}
+use Rattle.inverse.proofs.Judged.{core-wraps, first-calm, first-filter-wraps}
 use Rattle.inverse.proofs.told.level_one_told.Statement.{statement}
 use Rattle.inverse.proofs.told.level_one_told.Tie as tie
 

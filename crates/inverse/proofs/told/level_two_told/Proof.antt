@@ -12,7 +12,8 @@ use Rattle.lifting.proofs.Tests.{or-no}
 use Rattle.picture.specs.Level.{cores}
 use Rattle.picture.specs.Sizes.{macroblocks}
 use Rattle.picture.specs.Planes.{secondGrid}
-use Rattle.inverse.proofs.Judged.{core-wraps, second-calm, second-filter-wraps, row-as}
+use Rattle.large_numbers.proofs.Small.{row-as}
+use Rattle.inverse.proofs.Judged.{core-wraps, second-calm, second-filter-wraps}
 use Rattle.inverse.proofs.told.level_two_told.Statement.{statement}
 use Rattle.inverse.proofs.told.level_two_told.Tie as tie
 
