@@ -1,22 +1,26 @@
 -- Cores of a whole grid, told block by block: each law joins what the code reads of a block with the block that the grid has there.
 use Prim.Native.Nat.{ℕ, zero, suc, _+_, _-_, _*_, _/_, _%_, _≤_, _<_}
 use mathlib.Core.Path.{_≡_, refl, sym, _∙_, ap}
-use mathlib.Core.Bool.{Bool}
+use mathlib.Core.Bool.{Bool, false}
 use mathlib.Core.List.{List}
 use native.Mathlib.Omega.{arith}
 use native.Mathlib.Nat.{le-refl, mul-le-mul}
-use lib.IntN.{ℤ}
+use lib.IntN.{ℤ, natAbs}
 use Rattle.lifting.specs.Program.{at}
 use Rattle.lifting.specs.Tests.{any}
 use Rattle.lifting.specs.Wraps.{wraps}
 use Rattle.lifting.proofs.Tests.{any-same}
 use Rattle.figures.specs.Figures.{core}
+use Rattle.figures.proofs.Growth.{core-grows}
+use Rattle.large_numbers.specs.Small.{AtMost}
 use Rattle.picture.specs.Level.{cores}
 use Rattle.picture.specs.declared.size.Size.{Size}
 use Rattle.picture.specs.Sizes.{Sized, macroblocks}
 use Rattle.picture.specs.Planes.{table, coefficients, blockOrder, firstGrid, secondGrid}
 use Rattle.picture.proofs.Geometry.{order-low, block-of-order}
 use Rattle.picture.proofs.Grid.{at-first}
+use Rattle.picture.proofs.Table.{length-table}
+use Rattle.picture.proofs.NoWrap.{within-table}
 use Rattle.picture.proofs.Told.{cores-of-grid}
 
 -- a block by its coefficient 0 and by the plane and the place of the others
@@ -47,6 +51,15 @@ first-coefficient x f (suc k) e = absurd (omega arith)
 pub later-coefficient : (x : ℤ) (f : ℕ → ℤ) (k : ℕ) → (k ≡ 0 → ⊥) → f (k - 1) ≡ coefficients x f k
 later-coefficient x f zero h = absurd (h refl)
 later-coefficient x f (suc k) h = let e : suc k - 1 ≡ k = omega arith in ap f e
+
+-- ---- a core of numbers of at most 2^27
+
+pub block-calm : (x : ℤ) (rest : List ℤ) (from : ℕ) → natAbs x ≤ 134217728 → AtMost 134217728 rest from (from + 15) → blockWraps x rest from ≡ false
+block-calm x rest from h l = core-grows 134217728 (omega arith) .calm (length-table 16 _) (within-table 16 _ number)
+  where
+    number : (k : ℕ) → k < 16 → natAbs (coefficients x (λ i. at rest (from + i)) k) ≤ 134217728
+    number zero m = h
+    number (suc k) m = l (from + k) (omega arith) (omega arith)
 
 -- ---- the cores of the two levels
 

@@ -1,4 +1,4 @@
-// Whether a core transform of a level wraps, told from the coefficients: each is judged on its own numbers, and nothing is stored.
+// Whether a core transform of a level wraps, told from the coefficients: each that has a large number is judged on its own, and nothing is stored.
 // The walk ends at the first that wraps.
 ghost use mathlib.Core.Path.{_≡_};
 ghost use Prim.Native.Nat.{_+_, _*_, _/_, _%_, _<_, _≤_};
@@ -11,10 +11,12 @@ ghost use Rattle.picture.specs.Planes.{Lengths, planes, table, coefficients, bl
 ghost use Rattle.picture.specs.Sizes.{macroblocks, Sized};
 use core_transform::core_wraps;
 use grid::get_four;
+use large_numbers::above;
+use large_numbers::some_above;
 use picture::size::Size;
 
-// One core: its coefficient 0, and its coefficients 1 to 15 from their plane, of which the first stands at `from`.
-fn block_wraps(zero: i32, rest: &[i32], from: usize) -> bool
+// One core, judged step by step: its coefficient 0, and its coefficients 1 to 15 from their plane, of which the first stands at `from`.
+fn judge_block(zero: i32, rest: &[i32], from: usize) -> bool
     requires { ⌜ from + 14 < length (now rest) ⌝ }
     ensures { λ r. ⌜ r ≡ wraps core (table 16 (coefficients zero (λ k. number (now (rest .entry)) (from + k)))) ⌝ }
 {
@@ -23,6 +25,19 @@ fn block_wraps(zero: i32, rest: &[i32], from: usize) -> bool
     let third = get_four(rest, 1, from + 7);
     let fourth = get_four(rest, 1, from + 11);
     core_wraps([top, second, third, fourth])
+}
+
+// The same in less time where it cannot wrap: a core whose numbers are at most 2^27 in magnitude does not.
+fn block_wraps(zero: i32, rest: &[i32], from: usize) -> bool
+    requires { ⌜ from + 14 < length (now rest) ⌝ }
+    ensures { λ r. ⌜ r ≡ wraps core (table 16 (coefficients zero (λ k. number (now (rest .entry)) (from + k)))) ⌝ }
+{
+    let large_zero = above(zero, 134217728);
+    let large_rest = some_above(rest, from, 15, 134217728);
+    if large_zero | large_rest {
+        return judge_block(zero, rest, from);
+    }
+    false
 }
 
 // Level one. The contract alone speaks of the size: a macroblock's place in the planes does not depend on it.

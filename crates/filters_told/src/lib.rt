@@ -1,5 +1,5 @@
-// Whether a filter of a level wrapped, told from what the filters gave, on a grid of p squares across and q down: each is undone on its own numbers,
-// and nothing is stored. The walk ends at the first that wrapped.
+// Whether a filter of a level wrapped, told from what the filters gave, on a grid of p squares across and q down: each is undone on its own numbers, windows
+// only where one of these is large, and nothing is stored. The walk ends at the first that wrapped.
 ghost use mathlib.Core.Path.{_≡_};
 ghost use Prim.Native.Nat.{_+_, _-_, _*_, _<_, _≤_};
 ghost use lib.ListN.{length};
@@ -10,15 +10,35 @@ ghost use Rattle.picture.specs.Level.{cell, squareFilterAt, fourFilterAt, squar
 use four_filter::unfiltered_wraps;
 use grid::get_four;
 use grid::get_square;
+use large_numbers::some_above;
 use square_filter::undo_square_filter_wraps;
 
 // ---- one use
 
-fn window_wraps(grid: &[i32], w: usize, at: usize) -> bool
+// A window, judged step by step.
+fn judge_window(grid: &[i32], w: usize, at: usize) -> bool
     requires { ⌜ at + w + w + w + 3 < length (now grid) ⌝ }
     ensures { λ r. ⌜ r ≡ anyUse undoWraps (squareFilterAt w at) (now (grid .entry)) ⌝ }
 {
     undo_square_filter_wraps(get_square(grid, w, at))
+}
+
+// The same in less time where it cannot have wrapped: a window that gave numbers of at most 2^27 in magnitude has not.
+fn window_wraps(grid: &[i32], w: usize, at: usize) -> bool
+    requires { ⌜ at + w + w + w + 3 < length (now grid) ⌝ }
+    ensures { λ r. ⌜ r ≡ anyUse undoWraps (squareFilterAt w at) (now (grid .entry)) ⌝ }
+{
+    let second = at + w;
+    let third = second + w;
+    let fourth = third + w;
+    let in_first = some_above(grid, at, 4, 134217728);
+    let in_second = some_above(grid, second, 4, 134217728);
+    let in_third = some_above(grid, third, 4, 134217728);
+    let in_fourth = some_above(grid, fourth, 4, 134217728);
+    if in_first | in_second | in_third | in_fourth {
+        return judge_window(grid, w, at);
+    }
+    false
 }
 
 fn four_wraps(grid: &[i32], step: usize, at: usize) -> bool

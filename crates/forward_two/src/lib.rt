@@ -11,7 +11,6 @@ ghost use Rattle.lifting.specs.Wraps.{Within};
 ghost use Rattle.picture.specs.Level.{cell, level, cores as coresOf};
 ghost use Rattle.picture.specs.Planes.{firstGrid, secondGrid};
 ghost use Rattle.picture.specs.Sizes.{macroblocks, Sized};
-ghost use Rattle.large_numbers.specs.Small.{Small};
 ghost use Rattle.forward_two_cores.specs.Blocks.{blockOf, undoneIn, Among};
 ghost use Rattle.forward_two_edges.specs.Unfiltered.{unfiltered};
 ghost use Rattle.forward_two_edges.specs.Strip.{Holds, Kept, Given, Rows};
@@ -23,7 +22,7 @@ use forward_two_edges::edge_rows;
 use forward_two_parked::fetch;
 use forward_two_parked::park;
 use forward_two_windows::windows;
-use large_numbers::rows_large;
+use large_numbers::some_large;
 use picture::size::Size;
 
 // The two columns after the last macroblock of the group before become the first two.
@@ -204,7 +203,7 @@ fn group(
     first: usize,
     down: usize,
     strip: &mut [i32],
-) -> bool
+)
     requires { ⌜ Given size r c (now samples) (now strip) ⌝ }
     requires { ⌜ (at ≡ r * (256 * size .width .0) + 16 * c) × (m ≡ r * size .width .0 + c) ⌝ }
     requires { ⌜ Planes size (now dc) (now low) (now high) ⌝ }
@@ -215,15 +214,11 @@ fn group(
     ensures { λ u. ⌜ Through size (now (samples .entry)) (r * size .width .0 + c + n) (blockOf (now (dc .exit)) (now (low .exit)) (now (high .exit))) ⌝ }
     ensures { λ u. ⌜ (n ≡ 4 → c + n < size .width .0 → Carried size (now (samples .entry)) r (c + n) first (now (strip .exit))) ⌝ }
     ensures { λ u. ⌜ length (now (strip .exit)) ≡ 1296 ⌝ }
-    ensures { λ u. ⌜ (u ≡ false → (y : ℕ) → y < 16 → Small (now (samples .entry)) (at + y * (16 * size .width .0)) (at + y * (16 * size .width .0) + 16 * n)) ⌝ }
 {
-    let across = size.width.0 as usize;
-    let large = rows_large(samples, 16 * across, at, 16 * n);
     fill(size, r, c, n, samples, at, first, down, strip);
     upper(size, r, c, n, samples, dc, low, high, m, first, strip);
     cores(strip, dc, low, high, m, n);
     lower(size, r, c, n, dc, low, high, m, down, strip);
-    large
 }
 
 // How many of those that are left go together.
@@ -251,7 +246,7 @@ fn undo_row(
     first: usize,
     down: usize,
     strip: &mut [i32],
-) -> bool
+)
     requires { ⌜ Given size r 0 (now samples) (now strip) ⌝ }
     requires { ⌜ (at ≡ r * (256 * size .width .0)) × (m ≡ r * size .width .0) ⌝ }
     requires { ⌜ Planes size (now dc) (now low) (now high) ⌝ }
@@ -259,15 +254,13 @@ fn undo_row(
     requires { ⌜ Through size (now samples) (r * size .width .0) (blockOf (now dc) (now low) (now high)) ⌝ }
     ensures { λ u. ⌜ Through size (now (samples .entry)) (r * size .width .0 + size .width .0) (blockOf (now (dc .exit)) (now (low .exit)) (now (high .exit))) ⌝ }
     ensures { λ u. ⌜ length (now (strip .exit)) ≡ 1296 ⌝ }
-    ensures { λ u. ⌜ (u ≡ false → Small (now (samples .entry)) at (at + 256 * size .width .0)) ⌝ }
 {
     let across = size.width.0;
     let width = across as usize;
-    let mut large = false;
     let mut c = 0;
     while c < width {
         let n = together(width - c);
-        let found = group(
+        group(
             size,
             r,
             c,
@@ -282,10 +275,8 @@ fn undo_row(
             down,
             strip,
         );
-        large = large | found;
         c += n;
     }
-    large
 }
 
 // The first row of the strip that no row of macroblocks above has made.
@@ -309,7 +300,8 @@ fn windows_down(r: usize, height: usize) -> usize
     4
 }
 
-// A level with filters: the strip goes over the picture.
+// A level with filters: the strip goes over the picture. Whether a row of macroblocks has a large sample is seen before the strip goes over it: the look
+// brings the samples into the cache in the order of memory, which in a wide picture takes less time than the look does.
 fn undo_filtered(
     size: Size,
     samples: &[i32],
@@ -332,7 +324,8 @@ fn undo_filtered(
     for r in 0..height {
         let first = first_row(r);
         let rows = windows_down(r, height);
-        let found = undo_row(
+        let found = some_large(samples, at, 16 * w);
+        undo_row(
             size,
             r,
             samples,

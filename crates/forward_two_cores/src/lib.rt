@@ -9,12 +9,11 @@ ghost use Rattle.figures.specs.Figures.{core};
 ghost use Rattle.picture.specs.Level.{cores};
 ghost use Rattle.picture.specs.Planes.{firstGrid, secondGrid};
 ghost use Rattle.picture.specs.Sizes.{macroblocks, Sized};
-ghost use Rattle.large_numbers.specs.Small.{Small};
 ghost use Rattle.forward_kernel.specs.Placed.{blockIn};
 ghost use Rattle.forward_two_cores.specs.Blocks.{blockOf, squareIn, undoneIn, Among, Replaced, Elsewhere};
 use forward_kernel::undo_four_cores;
 use grid::put_four;
-use large_numbers::rows_large;
+use large_numbers::some_large;
 use picture::size::Size;
 
 // The coefficients 0 of macroblock m's blocks: its DC number and its low-pass numbers.
@@ -110,28 +109,24 @@ fn undo_row(
     low: &mut [i32],
     high: &mut [i32],
     m: usize,
-) -> bool
+)
     requires { ⌜ Sized size × (r < size .height .0) ⌝ }
     requires { ⌜ (at ≡ r * (256 * size .width .0)) × (m ≡ r * size .width .0) ⌝ }
     requires { ⌜ length (now samples) ≡ 256 * macroblocks size ⌝ }
     requires { ⌜ (length (now dc) ≡ macroblocks size) × (length (now low) ≡ 15 * macroblocks size) × (length (now high) ≡ 240 * macroblocks size) ⌝ }
     ensures { λ u. ⌜ Replaced (Among (r * size .width .0) (r * size .width .0 + size .width .0)) (λ t. undo core (squareIn (size .width .0) (now (samples .entry)) t))
         (blockOf (now (dc .entry)) (now (low .entry)) (now (high .entry))) (blockOf (now (dc .exit)) (now (low .exit)) (now (high .exit))) ⌝ }
-    ensures { λ o. ⌜ (o ≡ false → Small (now (samples .entry)) at (at + 256 * size .width .0)) ⌝ }
 {
     let across = size.width.0;
     let width = across as usize;
     let w = 16 * width;
-    let mut large = false;
     for c in 0..width {
-        let found = rows_large(samples, w, at + 16 * c, 16);
-        large = large | found;
         undo_macroblock_of(samples, w, at + 16 * c, dc, low, high, m + c);
     }
-    large
 }
 
-// All macroblocks of a picture, from its samples, and whether one of these is large.
+// All macroblocks of a picture, from its samples, and whether one of these is large. A row of macroblocks is looked at when it is done: its samples
+// follow one another, and are still in the cache.
 pub fn undo_cores(
     size: Size,
     samples: &[i32],
@@ -153,7 +148,8 @@ pub fn undo_cores(
     let mut m = 0;
     let mut large = false;
     for r in 0..down {
-        let found = undo_row(size, r, samples, at, dc, low, high, m);
+        undo_row(size, r, samples, at, dc, low, high, m);
+        let found = some_large(samples, at, 16 * w);
         large = large | found;
         at += 16 * w;
         m += across;

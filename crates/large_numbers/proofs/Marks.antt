@@ -1,5 +1,5 @@
 -- Marks, by cases on the signs of the number and of the sum; joined by bits, each is at most what they make together.
-use Prim.Native.Nat.{ℕ, suc, _-_, _≤_, _<_}
+use Prim.Native.Nat.{ℕ, suc, _-_, _*_, _≤_, _<_}
 use mathlib.Core.Path.{_≡_, refl, ap, _∙_, subst}
 use mathlib.Core.Bool.{Bool, true, false, cond}
 use mathlib.Core.List.{List}
@@ -11,7 +11,7 @@ use lib.IntN.{ℤ, pos, negsuc, natAbs, _+ℤ_}
 use lib.Signed.{mag, ltZ}
 use mir.Val.{SFits, toZ, ofZ}
 use mir.Syntax.{w32, w64}
-use mir.ValLaws.{toZ-ofZ}
+use mir.ValLaws.{toZ-ofZ, toZ-pos}
 use Rattle.lifting.specs.Program.{at}
 use Rattle.lifting.specs.Wrap.{low32}
 use Rattle.lifting.proofs.Bits.{back, mag-add, wide}
@@ -35,45 +35,44 @@ low-fits (pos n) = omega arith
 low-fits (negsuc n) = omega arith
 
 -- a number of 32 bits and k added in 64 bits, as the locals hold them
-module _ {x : ℤ} (f : SFits w32 x) (k : ℕ) where
+module _ {x : ℤ} (f : SFits w32 x) (k : ℕ) (h : k ≤ 1073741824) where
   abbrev sum : ℤ
-  sum = toZ w64 (ofZ w64 (toZ w32 (ofZ w32 x))) +ℤ pos k
+  sum = toZ w64 (ofZ w64 (toZ w32 (ofZ w32 x))) +ℤ toZ w64 k
 
-  near : k < 2147483648 → mag (x +ℤ pos k) < 4294967296
-  near h = omega (arith, mag-add x (pos k), f .sfits)
+  plain : sum ≡ x +ℤ pos k
+  plain = rw (wide x f, toZ-pos w64 k (omega arith)) refl
 
-  pub sum-fits : k < 2147483648 → SFits w64 sum
-  sum-fits h = rw (wide x f) (record { sfits = omega (arith, near h) })
+  near : mag (x +ℤ pos k) < 4294967296
+  near = omega (arith, mag-add x (pos k), f .sfits)
 
-  sum-is : k < 2147483648 → toZ w64 (ofZ w64 sum) ≡ x +ℤ pos k
-  sum-is h = toZ-ofZ w64 sum (sum-fits h) ∙ ap (λ z. z +ℤ pos k) (wide x f)
+  pub sum-fits : SFits w64 sum
+  sum-fits = rw plain (record { sfits = omega (arith, near) })
 
-  pub below : ltZ (toZ w64 (ofZ w64 sum)) (pos 0) ≡ true → k < 2147483648 → (toZ w64 (ofZ w64 sum) +ℤ pos 4294967296 ≡ pos (low32 (x +ℤ pos k))) × (low32 (x +ℤ pos k) < 4294967296)
-  below e h = (rw (sum-is h) (under (x +ℤ pos k) (near h) (rw (sum-is h) at e)), low-fits (x +ℤ pos k))
+  sum-is : toZ w64 (ofZ w64 sum) ≡ x +ℤ pos k
+  sum-is = toZ-ofZ w64 sum sum-fits ∙ plain
 
-  pub not-below : ltZ (toZ w64 (ofZ w64 sum)) (pos 0) ≡ false → k < 2147483648 → (toZ w64 (ofZ w64 sum) ≡ pos (low32 (x +ℤ pos k))) × (low32 (x +ℤ pos k) < 4294967296)
-  not-below e h = (sum-is h ∙ not-under (x +ℤ pos k) (near h) (rw (sum-is h) at e), low-fits (x +ℤ pos k))
+  pub below : ltZ (toZ w64 (ofZ w64 sum)) (pos 0) ≡ true → (toZ w64 (ofZ w64 sum) +ℤ pos 4294967296 ≡ pos (low32 (x +ℤ pos k))) × (low32 (x +ℤ pos k) < 4294967296)
+  below e = (rw sum-is (under (x +ℤ pos k) near (rw sum-is at e)), low-fits (x +ℤ pos k))
+
+  pub not-below : ltZ (toZ w64 (ofZ w64 sum)) (pos 0) ≡ false → (toZ w64 (ofZ w64 sum) ≡ pos (low32 (x +ℤ pos k))) × (low32 (x +ℤ pos k) < 4294967296)
+  not-below e = (sum-is ∙ not-under (x +ℤ pos k) near (rw sum-is at e), low-fits (x +ℤ pos k))
 
 pub in-64 : {n : ℕ} → n < 4294967296 → SFits w64 (pos n)
 in-64 h = record { sfits = omega arith }
 
 -- ---- what a mark says of its number
 
-below-cond : (n : ℕ) (t : Bool) → ltb 33554432 (suc n) ≡ t → n < 2147483648 → low32 (cond t (negsuc (suc n - 33554433)) (pos (33554432 - suc n))) < 67108864 → suc n ≤ 33554432
-below-cond n true e h k = omega (arith, ltb-true 33554432 (suc n) e)
-below-cond n false e h k = ltb-false 33554432 (suc n) e
+below-cond : (B n : ℕ) (t : Bool) → ltb B (suc n) ≡ t → B ≤ 1073741824 → n < 2147483648 → low32 (cond t (negsuc (suc n - suc B)) (pos (B - suc n))) < 2 * B → suc n ≤ B
+below-cond B n true e l h k = absurd (omega (arith, ltb-true B (suc n) e))
+below-cond B n false e l h k = ltb-false B (suc n) e
 
-pub mark-small : (x : ℤ) → SFits w32 x → low32 (x +ℤ pos 33554432) < 67108864 → natAbs x ≤ 33554432
-mark-small (pos n) f h = omega (arith, f .sfits)
-mark-small (negsuc n) f h = below-cond n (ltb 33554432 (suc n)) refl (f .sfits) h
+mark-small : (B : ℕ) → B ≤ 1073741824 → (x : ℤ) → SFits w32 x → low32 (x +ℤ pos B) < 2 * B → natAbs x ≤ B
+mark-small B l (pos n) f h = omega (arith, f .sfits)
+mark-small B l (negsuc n) f h = below-cond B n (ltb B (suc n)) refl l (f .sfits) h
 
--- a number of a row that was read and marked; its local is the number itself, which is of 32 bits
-module _ (v : List ℤ) (k : ℕ) (given : mag (at v k) < 2147483648) where
-  pub read-fits : SFits w32 (at v k)
-  read-fits = record { sfits = given }
-
-  pub marked : {m : ℕ} → m ≡ low32 (toZ w32 (ofZ w32 (at v k)) +ℤ pos 33554432) → m < 67108864 → natAbs (at v k) ≤ 33554432
-  marked e h = mark-small (at v k) read-fits (subst (λ (m : ℕ). m < 67108864) (rw (back {x = at v k} given) at e) h)
+-- a number that was marked; its local is the number itself, which is of 32 bits
+pub marked : (B : ℕ) → B ≤ 1073741824 → (x : ℤ) → mag x < 2147483648 → {m : ℕ} → m ≡ low32 (toZ w32 (ofZ w32 x) +ℤ pos B) → m < 2 * B → natAbs x ≤ B
+marked B l x given e h = mark-small B l x (record { sfits = given }) (subst (λ (m : ℕ). m < 2 * B) (rw (back {x = x} given) at e) h)
 
 -- ---- marks joined
 

@@ -42,7 +42,7 @@ unfolding get
 length-get [] v = refl
 length-get (p ∷ ps) v = ap suc (length-get ps v)
 
-within-get : (B : ℕ) (ps : List ℕ) (v : List ℤ) → All (λ i. natAbs (at v i) ≤ B) ps → Within B (get ps v)
+pub within-get : (B : ℕ) (ps : List ℕ) (v : List ℤ) → All (λ i. natAbs (at v i) ≤ B) ps → Within B (get ps v)
 unfolding get
 within-get B [] v h = record { within = λ i. omega arith }
 within-get B (p ∷ ps) v h = record { within = elim [ zero ↦ h .0 | suc i ↦ within-get B ps v (h .1) .within i ] }

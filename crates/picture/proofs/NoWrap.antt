@@ -126,10 +126,10 @@ module _ (filtered : Bool) (p q : ℕ) (wide : 0 < p) (tall : 0 < q) (v : List �
 -- ---- grids and planes
 
 module _ {B : ℕ} where
-  within-table : (n : ℕ) (f : ℕ → ℤ) → ((i : ℕ) → natAbs (f i) ≤ B) → Within B (table n f)
+  pub within-table : (n : ℕ) (f : ℕ → ℤ) → ((i : ℕ) → i < n → natAbs (f i) ≤ B) → Within B (table n f)
   unfolding table
   within-table zero f h = record { within = λ i. omega arith }
-  within-table (suc n) f h = record { within = elim [ zero ↦ h 0 | suc i ↦ within-table n (λ j. f (suc j)) (λ j. h (suc j)) .within i ] }
+  within-table (suc n) f h = record { within = elim [ zero ↦ h 0 (omega arith) | suc i ↦ within-table n (λ j. f (suc j)) (λ j l. h (suc j) (omega arith)) .within i ] }
 
   within-coefficients : (x : ℤ) (f : ℕ → ℤ) → natAbs x ≤ B → ((k : ℕ) → natAbs (f k) ≤ B) → (k : ℕ) → natAbs (coefficients x f k) ≤ B
   within-coefficients x f h l zero = h
@@ -137,7 +137,7 @@ module _ {B : ℕ} where
 
   within-grid : (p q : ℕ) (f : ℕ → ℕ → ℤ) → ((s k : ℕ) → natAbs (f s k) ≤ B) → Within B (grid p q f)
   unfolding grid
-  within-grid p q f h = within-table _ _ (λ i. h _ _)
+  within-grid p q f h = within-table _ _ (λ i l. h _ _)
 
   pub first-within : (W H : ℕ) {dc low : List ℤ} → Within B dc → Within B low → Within B (firstGrid W H dc low)
   unfolding firstGrid
@@ -149,7 +149,7 @@ module _ {B : ℕ} where
 
   within-view : (W H : ℕ) {g : List ℤ} → Within B g → Within B (viewOf W H g)
   unfolding viewOf
-  within-view W H h = within-table _ _ (λ i. h .within _)
+  within-view W H h = within-table _ _ (λ i l. h .within _)
 
 -- ---- the whole transforms, for numbers of at most 2^22
 

@@ -10,11 +10,8 @@ use blocks::Quads;
 use blocks::ToldQuads;
 use figures::Four;
 use overlap_operators::post_hadamard_told;
-use overlap_operators::post_odd_odd;
 use overlap_operators::post_odd_odd_told;
-use overlap_operators::rotation;
 use overlap_operators::rotation_told;
-use overlap_operators::scale;
 use overlap_operators::scale_told;
 use overlap_operators::undo_post_hadamard_told;
 use overlap_operators::undo_post_odd_odd;
@@ -25,73 +22,24 @@ use overlap_operators::undo_scale;
 use overlap_operators::undo_scale_told;
 
 // The rotations, Figure 4.12 and the scalings, which go across the fours
-pub fn crossed(v: Quads) -> Quads
-    ensures { λ w. ⌜ mirrored w ≡ run crossedStage (mirrored v) ⌝ }
-{
-    let admp = v.p;
-    let bcno = v.q;
-    let ehil = v.r;
-    let fgjk = v.s;
-    let nm = rotation(bcno.c, admp.c);
-    let ji = rotation(fgjk.c, ehil.c);
-    let hd = rotation(ehil.b, admp.b);
-    let gc = rotation(fgjk.b, bcno.b);
-    let klop = post_odd_odd(Four {
-        a: fgjk.d,
-        b: ehil.d,
-        c: bcno.d,
-        d: admp.d,
-    });
-    let ap = scale(admp.a, klop.d);
-    let bo = scale(bcno.a, klop.c);
-    let el = scale(ehil.a, klop.b);
-    let fk = scale(fgjk.a, klop.a);
-    let p = Four {
-        a: ap.a,
-        b: hd.b,
-        c: nm.b,
-        d: ap.b,
-    };
-    let q = Four {
-        a: bo.a,
-        b: gc.b,
-        c: nm.a,
-        d: bo.b,
-    };
-    let r = Four {
-        a: el.a,
-        b: hd.a,
-        c: ji.b,
-        d: el.b,
-    };
-    let s = Four {
-        a: fk.a,
-        b: gc.a,
-        c: ji.a,
-        d: fk.b,
-    };
-    Quads { p, q, r, s }
-}
-
-// The same told: a second text, because the plain one goes into its loop by having one caller
-pub fn crossed_told(v: Quads) -> ToldQuads
+pub fn crossed_told(tell: bool, v: Quads) -> ToldQuads
     ensures done { λ o. ⌜ mirrored (o .quads) ≡ run crossedStage (mirrored v) ⌝ }
-    ensures told { λ o. ⌜ o .wrapped ≡ wraps crossedStage (mirrored v) ⌝ }
+    ensures told { λ o. ⌜ o .wrapped ≡ tell && wraps crossedStage (mirrored v) ⌝ }
 {
     let admp = v.p;
     let bcno = v.q;
     let ehil = v.r;
     let fgjk = v.s;
-    let nm_told = rotation_told(true, bcno.c, admp.c);
+    let nm_told = rotation_told(tell, bcno.c, admp.c);
     let nm = nm_told.pair;
-    let ji_told = rotation_told(true, fgjk.c, ehil.c);
+    let ji_told = rotation_told(tell, fgjk.c, ehil.c);
     let ji = ji_told.pair;
-    let hd_told = rotation_told(true, ehil.b, admp.b);
+    let hd_told = rotation_told(tell, ehil.b, admp.b);
     let hd = hd_told.pair;
-    let gc_told = rotation_told(true, fgjk.b, bcno.b);
+    let gc_told = rotation_told(tell, fgjk.b, bcno.b);
     let gc = gc_told.pair;
     let klop_told = post_odd_odd_told(
-        true,
+        tell,
         Four {
             a: fgjk.d,
             b: ehil.d,
@@ -100,13 +48,13 @@ pub fn crossed_told(v: Quads) -> ToldQuads
         },
     );
     let klop = klop_told.four;
-    let ap_told = scale_told(true, admp.a, klop.d);
+    let ap_told = scale_told(tell, admp.a, klop.d);
     let ap = ap_told.pair;
-    let bo_told = scale_told(true, bcno.a, klop.c);
+    let bo_told = scale_told(tell, bcno.a, klop.c);
     let bo = bo_told.pair;
-    let el_told = scale_told(true, ehil.a, klop.b);
+    let el_told = scale_told(tell, ehil.a, klop.b);
     let el = el_told.pair;
-    let fk_told = scale_told(true, fgjk.a, klop.a);
+    let fk_told = scale_told(tell, fgjk.a, klop.a);
     let fk = fk_told.pair;
     let p = Four {
         a: ap.a,
@@ -145,6 +93,12 @@ pub fn crossed_told(v: Quads) -> ToldQuads
             | el_told.wrapped
             | fk_told.wrapped,
     }
+}
+
+pub fn crossed(v: Quads) -> Quads
+    ensures { λ w. ⌜ mirrored w ≡ run crossedStage (mirrored v) ⌝ }
+{
+    crossed_told(false, v).quads
 }
 
 // The same undone
@@ -196,7 +150,7 @@ pub fn undo_crossed(v: Quads) -> Quads
     Quads { p, q, r, s }
 }
 
-// The undoing told
+// The undoing told: a second text, because the plain one goes into its loop only as a text of its own
 pub fn undo_crossed_told(v: Quads) -> ToldQuads
     ensures done { λ o. ⌜ mirrored (o .quads) ≡ undo crossedStage (mirrored v) ⌝ }
     ensures told { λ o. ⌜ o .wrapped ≡ undoWraps crossedStage (mirrored v) ⌝ }

@@ -38,7 +38,7 @@ pub fn square_filter_wraps(b: [[i32; 4]; 4]) -> bool
     ensures { λ r. ⌜ r ≡ wraps squareFilterLines (flat b) ⌝ }
 {
     let first = hadamards_told(true, split(b));
-    let second = crossed_told(first.quads);
+    let second = crossed_told(true, first.quads);
     let third = post_hadamards_told(true, second.quads);
     first.wrapped | second.wrapped | third.wrapped
 }

@@ -6,12 +6,15 @@ use common::*;
 use lapped::{Mode, Size};
 use reference::level::Grid;
 use reference::number::{told, Plain, Telling};
-use reference::operators::{inverse, Block};
+use reference::operators::{forward, inverse, Block};
 use reference::random::{Random, Values};
 
 /// Up to this magnitude no number of a level makes a sum wrap in it, so that a library may leave off
 /// looking at steps there.
 const CALM: i32 = 1 << 25;
+
+/// And up to this one no block or window wraps by its own sixteen numbers.
+const CALM_ALONE: i32 = 1 << 27;
 
 /// The library tells of these planes what the reference does, and this is given.
 fn assert_agrees(mode: Mode, size: Size, planes: &[Vec<i32>; 3], what: &str) -> bool {
@@ -65,12 +68,16 @@ fn pictures_of_all_magnitudes() {
 }
 
 /// The magnitudes around which a library may change its way, and those at which a number wraps alone.
-const ALONE: [i32; 12] = [
+const ALONE: [i32; 16] = [
     CALM,
     CALM + 1,
     -CALM,
     -CALM - 1,
     CALM - 1,
+    CALM_ALONE,
+    CALM_ALONE + 1,
+    -CALM_ALONE,
+    -CALM_ALONE - 1,
     1 << 30,
     715_827_883,
     -715_827_883,
@@ -118,10 +125,59 @@ fn large_numbers_alone() {
     }
 }
 
-/// Of the numbers alone, those around 2^25 do not wrap and some of the others do.
+/// Of the numbers alone, those around 2^25 and 2^27 do not wrap and some of the others do.
 fn assert_some_wrap(wraps: impl Fn(i32) -> bool) {
     let wrapped = ALONE.map(wraps);
-    assert!(wrapped[..5] == [false; 5] && wrapped[5..].contains(&true), "{wrapped:?}");
+    assert!(wrapped[..9] == [false; 9] && wrapped[9..].contains(&true), "{wrapped:?}");
+}
+
+/// Sixteen numbers of one magnitude.
+fn block_of(signs: u32, magnitude: i32) -> Block {
+    std::array::from_fn(|k| if signs >> k & 1 == 1 { -magnitude } else { magnitude })
+}
+
+/// The least magnitude at which an operator wraps on sixteen numbers of it, and signs with which it does.
+fn least_that_wraps(operator: fn([Telling; 16]) -> [Telling; 16]) -> (u32, i32) {
+    let wraps = |signs, magnitude| told(operator, block_of(signs, magnitude)).1;
+    let mut least = (0, i32::MAX);
+    for signs in 0..1 << 16 {
+        while wraps(signs, least.1 - 1) {
+            let (mut calm, mut wrapping) = (CALM_ALONE, least.1 - 1);
+            while wrapping - calm > 1 {
+                let middle = calm + (wrapping - calm) / 2;
+                *(if wraps(signs, middle) { &mut wrapping } else { &mut calm }) = middle;
+            }
+            least = (signs, wrapping);
+        }
+    }
+    least
+}
+
+/// A library may pass over blocks and windows whose numbers are all at most 2^27. The least with which one
+/// wraps are not much larger, and are told of; those with numbers one less are not.
+#[test]
+fn blocks_and_windows_of_the_least_numbers_that_wrap() {
+    let shape = size(1, 1);
+    let (signs, least) = least_that_wraps(inverse::core);
+    assert!((CALM_ALONE..2 * CALM_ALONE).contains(&least), "{least}");
+    for magnitude in [least - 1, least] {
+        let block = block_of(signs, magnitude);
+        let planes = [block[..1].to_vec(), block[1..].to_vec(), vec![0; 240]];
+        let what = format!("a block of numbers of magnitude {magnitude}");
+        let [[cores, ..], _] = wrapping(Mode::Unfiltered, shape, &planes);
+        assert_eq!(cores, magnitude == least, "{what}");
+        assert_agrees(Mode::Unfiltered, shape, &planes, &what);
+    }
+    let (signs, least) = least_that_wraps(forward::overlap_square);
+    assert!((CALM_ALONE..2 * CALM_ALONE).contains(&least), "{least}");
+    for magnitude in [least - 1, least] {
+        let mut samples = vec![0; 256];
+        for (k, number) in block_of(signs, magnitude).into_iter().enumerate() {
+            samples[(2 + k / 4) * 16 + 2 + k % 4] = number;
+        }
+        let what = format!("a window of numbers of magnitude {magnitude}");
+        assert_agrees_of_samples(Mode::SampleLevel, shape, &samples, &what);
+    }
 }
 
 /// Large numbers everywhere, just as large as makes no sum of their level wrap and one more, with signs

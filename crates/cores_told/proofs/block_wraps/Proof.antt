@@ -1,25 +1,30 @@
--- The sixteen numbers, row by row, are the block's coefficients.
-use mathlib.Core.Path.{_∙_, ap}
+-- Judged, or of numbers with which a core does not wrap.
+use mathlib.Core.Path.{_≡_, sym}
+use native.Mathlib.Omega.{arith}
 use borrow.Author.Needs.{needs}
-use Rattle.lifting.specs.Wraps.{wraps}
-use Rattle.figures.specs.Figures.{core}
-use Rattle.grid.proofs.Squares.{square-rows}
+use mir.Val.{toZ, ofZ}
+use mir.Syntax.{w32}
+use Rattle.lifting.proofs.Bits.{back}
+use Rattle.lifting.proofs.Tests.{or-no}
+use Rattle.cores_told.proofs.Blocks.{block-calm}
 use Rattle.cores_told.proofs.block_wraps.Statement.{statement}
 use Rattle.cores_told.proofs.block_wraps.Tie as tie
 
+-- the local that is passed on is the number itself
+zero-is : (s : tie.Start) → toZ w32 (ofZ w32 (s .args .zero)) ≡ s .args .zero
+zero-is s = back (s .fits .zero .sfits)
+
 returns : tie.Need-returns
-returns c =
-    let fourth = c .before in
-    let third = fourth .before in
-    let second = third .before in
-    let c3 = second .before in
-    let c2 = c3 .before in
-    let c1 = c2 .before in
-    c .core-wraps .ensures
-    ∙ ap (wraps core)
-    (square-rows _ _ _ _ _ _ (c1 .before .fits .zero) (c1 .t10 .given) (c2 .t14 .given) (c3 .t18 .given) (second .get-four .ensures) (third .get-four2 .ensures) (fourth .get-four3 .ensures))
+returns c = rw (zero-is (c .before .before .before .before)) at (c .judge-block .ensures)
+
+returns-2 : tie.Need-returns-2
+returns-2 c =
+    let rest = c .before in
+    let zero = rest .before in
+    let s = zero .before in
+    let a = s .args in
+    let calm = or-no (zero .above .result) (rest .some-above .result) (c .if1 .left) in
+    sym (block-calm (a .zero) (a .rest .now) (a .from) (rw (zero-is s) at (zero .above .ensures (calm .0))) (rest .some-above .ensures .0 (calm .1)))
 
 pub block-wraps-spec : {M : Type 1} → statement M
-block-wraps-spec =
-    tie.close
-    (tie.spec (λ c. search needs) (λ c. search needs) (λ c. search needs) (λ c. search needs) (λ c. search needs) (λ c. search needs) (λ c. search needs) (λ c. search needs) (λ c. search needs) (λ c κs. search needs) (λ c. search needs) (λ c κs. search needs) (λ c. search needs) (λ c κs. search needs) (λ c κs. search needs) returns)
+block-wraps-spec = tie.close (tie.spec (λ c κs. omega arith) (λ c κs. (omega (arith, c .before .pre), omega arith)) (λ c κs. search needs) returns returns-2)

@@ -1,7 +1,6 @@
--- The samples looked at, the strip filled, its upper rows fetched, its cores undone and its lower rows parked.
+-- The strip filled, its upper rows fetched, its cores undone and its lower rows parked.
 use mathlib.Core.Path.{_∙_}
 use native.Mathlib.Omega.{arith}
-use Rattle.grid.proofs.Rows.{row-inside}
 use Rattle.forward_two_cores.specs.Blocks.{blockOf}
 use Rattle.forward_two_edges.proofs.Strips.{given-of}
 use Rattle.forward_two.proofs.Joined.{group-inside, columns-carried, group-through}
@@ -9,20 +8,13 @@ use borrow.Author.Needs.{needs}
 use Rattle.forward_two.proofs.group.Statement.{statement}
 use Rattle.forward_two.proofs.group.Tie as tie
 
--- the last of the sixteen rows ends among the samples
-rows-large-requires : tie.Need-rows-large-requires
-rows-large-requires c κs =
-    let s = c .before in
-    let a = s .args in
-    omega (arith, s .pre .1 .0 .0, s .pre .1 .1 .1 .1 .0 .2, s .pre .0 .of-samples, row-inside (a .r) (a .size .height .0) (a .size .width .0) (s .pre .0 .below))
-
 fill-requires : tie.Need-fill-requires
-fill-requires c κs = let s = c .before .before .before in let h = s .pre .1 .1 in (s .pre .0, (omega (arith, s .pre .1 .0 .0), (h .1 .0, (h .1 .1 .1 .0, h .1 .1 .0))))
+fill-requires c κs = let s = c .before in let h = s .pre .1 .1 in (s .pre .0, (omega (arith, s .pre .1 .0 .0), (h .1 .0, (h .1 .1 .1 .0, h .1 .1 .0))))
 
 upper-requires : tie.Need-upper-requires
 upper-requires c κs =
     let f = c .before .before .before .before .before in
-    let s = f .before .before .before .before in
+    let s = f .before .before in
     let g = s .pre .0 in
     let h = s .pre .1 .1 in
     (given-of g (f .fill .ensures .1), (h .0, (h .1 .1 .0, (h .1 .0 .top, (s .pre .1 .0 .1, (f .fill .ensures .0, h .1 .1 .1 .1))))))
@@ -30,7 +22,7 @@ upper-requires c κs =
 cores-requires : tie.Need-cores-requires
 cores-requires c κs =
     let u = c .before .before .before .before .before in
-    let s = u .before .before .before .before .before .before .before .before .before .before in
+    let s = u .before .before .before .before .before .before .before .before in
     let a = s .args in
     let h = s .pre .1 .1 in
     ((u .upper .ensures .1 .1, h .1 .1 .0 .1), group-inside (a .size) (a .r) (a .c) (a .n) (a .m) (s .pre .1 .0 .1) (s .pre .0 .below) (h .1 .1 .0 .2) (h .0))
@@ -39,7 +31,7 @@ lower-requires : tie.Need-lower-requires
 lower-requires c κs =
     let k = c .before .before .before .before .before .before .before in
     let u = k .before .before .before .before .before .before in
-    let s = u .before .before .before .before .before .before .before .before .before .before in
+    let s = u .before .before .before .before .before .before .before .before in
     let g = s .pre .0 in
     let p = s .pre .1 .1 .0 in
     let h = s .pre .1 .1 .1 in
@@ -51,18 +43,17 @@ returns c =
     let l = c .before .before .before in
     let k = l .before .before .before .before .before .before .before .before in
     let u = k .before .before .before .before .before .before in
-    let looked = u .before .before .before .before .before .before .before .before in
-    let s = looked .before .before in
+    let s = u .before .before .before .before .before .before .before .before in
     let a = s .args in
     let g = s .pre .0 in
     let h = s .pre .1 .1 .1 .1 in
     let W = a .size .width .0 in (
       group-through (a .size) (a .samples .now) (g .sized .wide) (a .r) (a .c) (a .n) (g .below) (h .0 .2) (blockOf (a .dc .now) (a .low .now) (a .high .now)) _ _ (a .m) (s .pre .1 .0 .1) (h .0 .1) (u .upper .ensures .0) (h .1 .1) (k .cores .ensures .0) (k .cores .ensures .1)
           (l .lower .ensures .own) (l .lower .ensures .others),
-      (λ e f. columns-carried (a .size) (a .samples .now) (g .sized .wide) (a .r) (a .c) (a .n) (g .below) (h .0 .2) (a .first) e f (u .upper .ensures .1 .0), (u .upper .ensures .1 .1, looked .rows-large .ensures)),
+      (λ e f. columns-carried (a .size) (a .samples .now) (g .sized .wide) (a .r) (a .c) (a .n) (g .below) (h .0 .2) (a .first) e f (u .upper .ensures .1 .0), u .upper .ensures .1 .1),
     )
 
 pub group-spec : {M : Type 1} → statement M
 group-spec =
     tie.close
-    (tie.spec (λ c. search needs) (λ c. omega (arith, c .before .pre .0 .sized .most-wide)) (λ c. omega (arith, c .before .pre .1 .1 .1 .1 .0 .1)) rows-large-requires fill-requires upper-requires cores-requires lower-requires (λ c. search needs) (λ c. search needs) (λ c. search needs) (λ c. search needs) returns)
+    (tie.spec fill-requires upper-requires cores-requires lower-requires (λ c. search needs) (λ c. search needs) (λ c. search needs) (λ c. search needs) returns)

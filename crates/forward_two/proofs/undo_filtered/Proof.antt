@@ -6,6 +6,7 @@ use native.Mathlib.Omega.{arith}
 use native.Mathlib.Nat.{add-mul}
 use borrow.Author.Needs.{needs}
 use lib.ListN.{length}
+use Rattle.grid.proofs.Rows.{row-inside}
 use Rattle.large_numbers.specs.Small.{Small}
 use Rattle.large_numbers.proofs.Small.{neither, small-none, small-up-to, small-part, small-within}
 use Rattle.forward_two_cores.specs.Blocks.{blockOf, squareIn}
@@ -32,7 +33,7 @@ loop-holds c = let s = c .before .before in let a = s .args in (omega arith, s .
 
 undo-row-requires : tie.Need-undo-row-requires Inv-loop μ-loop
 undo-row-requires c κs =
-    let w = c .before .before .before .before in
+    let w = c .before .before .before .before .before in
     let f = w .before in
     let test = f .before in
     let l = test .before in
@@ -54,16 +55,26 @@ low c =
     let p = place-low (a .size) z (16 * l .loop .r + 15) (16 * W - 1) refl (omega (arith, c .loop-test)) (omega (arith, z .wide)) in
     (omega (arith, l .loop .inv .4, l .loop .inv .5), omega (arith, p, l .loop .inv .4, z .wide))
 
+-- and its samples are among the samples
+some-large-requires : tie.Need-some-large-requires Inv-loop μ-loop
+some-large-requires c κs =
+    let test = c .before .before in
+    let l = test .before in
+    let s = l .before .before .before in
+    let a = s .args in
+    omega (arith, l .loop .inv .4, s .pre .0 .1, row-inside (l .loop .r) (a .size .height .0) (a .size .width .0) (omega (arith, test .loop-test)))
+
 add-at : tie.Need-add-at Inv-loop μ-loop
-add-at c = omega (arith, low (c .before .before .before .before .before .before .before .before .before .before .before))
+add-at c = omega (arith, low (c .before .before .before .before .before .before .before .before .before .before .before .before))
 
 add-m : tie.Need-add-m Inv-loop μ-loop
-add-m c = omega (arith, low (c .before .before .before .before .before .before .before .before .before .before .before))
+add-m c = omega (arith, low (c .before .before .before .before .before .before .before .before .before .before .before .before))
 
 loop-again : tie.Need-loop-again Inv-loop μ-loop
 loop-again c =
     let d = c .before .before .before .before in
-    let test = d .before .before .before .before .before .before .before in
+    let looked = d .before .before .before .before .before in
+    let test = looked .before .before .before in
     let l = test .before in
     let v = l .loop .inv in
     let k = d .undo-row .kept in
@@ -71,11 +82,11 @@ loop-again c =
     let W = a .size .width .0 in (
       omega (arith, test .loop-test),
       record { of-dc = k .1 .1 .1 .1 .0 ∙ v .1 .of-dc; of-low = k .1 .1 .1 .1 .1 .0 ∙ v .1 .of-low; of-high = k .1 .1 .1 .1 .1 .1 .0 ∙ v .1 .of-high },
-      d .undo-row .ensures .1 .0,
+      d .undo-row .ensures .1,
       through-as ((l .loop .r + 1) * W) (sym (add-mul (l .loop .r) 1 W ∙ omega arith)) (d .undo-row .ensures .0),
       omega (arith, v .4),
       omega (arith, v .5),
-      neither (small-up-to (a .samples .now) (omega arith) (omega arith)) (v .6) (d .undo-row .ensures .1 .1),
+      neither (small-up-to (a .samples .now) (omega arith) (omega arith)) (v .6) (looked .some-large .ensures .0),
     )
 
 same-length : tie.Need-same-length Inv-loop μ-loop
@@ -106,4 +117,4 @@ returns c =
 pub undo-filtered-spec : {M : Type 1} → statement M
 undo-filtered-spec =
     tie.close
-    (tie.spec Inv-loop μ-loop (λ c. search needs) (λ c. search needs) (λ c. search needs) loop-holds (λ c κs. search needs) (λ c κs. omega arith) (λ c. search needs) undo-row-requires (λ c. search needs) add-at add-m (λ c. omega arith) (λ c. omega arith) loop-again same-length same-length-2 same-length-3 returns)
+    (tie.spec Inv-loop μ-loop (λ c. search needs) (λ c. search needs) (λ c. search needs) loop-holds (λ c κs. search needs) (λ c κs. omega arith) (λ c. omega (arith, low (c .before .before))) some-large-requires (λ c. search needs) undo-row-requires (λ c. search needs) add-at add-m (λ c. omega arith) (λ c. omega arith) loop-again same-length same-length-2 same-length-3 returns)

@@ -1,11 +1,9 @@
--- Group after group: the macroblocks before the next are done and their samples looked at, and two columns carried to it.
+-- Group after group: the macroblocks before the next are done, and two columns carried to it.
 use Prim.Native.Nat.{_+_, _-_, _*_, _≤_, _<_}
-use mathlib.Core.Path.{_≡_, refl, sym, _∙_}
-use mathlib.Core.Bool.{false}
+use mathlib.Core.Path.{_≡_, sym, _∙_}
 use native.Mathlib.Omega.{arith}
 use borrow.Author.Needs.{needs}
 use lib.ListN.{length}
-use Rattle.large_numbers.proofs.Small.{Rows, neither, columns-more, whole-rows}
 use Rattle.forward_two_cores.specs.Blocks.{blockOf}
 use Rattle.forward_two_edges.proofs.Strips.{place-low}
 use Rattle.forward_two.specs.Strips.{Carried, Through, Planes}
@@ -14,16 +12,15 @@ use Rattle.forward_two.proofs.undo_row.Statement.{statement}
 use Rattle.forward_two.proofs.undo_row.Tie as tie
 
 abbrev Inv-loop : tie.InvT-loop
-Inv-loop size r samples at dc₀ low₀ high₀ m first down strip₀ across width large₀ c₀ dc low high strip large c =
+Inv-loop size r samples at dc₀ low₀ high₀ m first down strip₀ across width c₀ dc low high strip c =
     let W = size .width .0 in
     (c ≤ W) × Planes size dc low high × (length strip ≡ 1296) × Through size samples (r * W + c) (blockOf dc low high) × (0 < c → c < W → Carried size samples r c first strip)
-    × (large ≡ false → Rows samples (16 * W) at 16 (16 * c))
 
 abbrev μ-loop : tie.MeasureT-loop
-μ-loop size r samples at dc₀ low₀ high₀ m first down strip₀ across width large₀ c₀ dc low high strip large c = size .width .0 - c
+μ-loop size r samples at dc₀ low₀ high₀ m first down strip₀ across width c₀ dc low high strip c = size .width .0 - c
 
 loop-holds : tie.Need-loop-holds Inv-loop μ-loop
-loop-holds c = let a = c .args in (omega arith, c .pre .1 .1 .0, c .pre .0 .of-strip, through-as (a .r * a .size .width .0 + 0) (omega arith) (c .pre .1 .1 .1 .1), λ h. absurd (omega arith), λ e y h i l m. absurd (omega arith))
+loop-holds c = let a = c .args in (omega arith, c .pre .1 .1 .0, c .pre .0 .of-strip, through-as (a .r * a .size .width .0 + 0) (omega arith) (c .pre .1 .1 .1 .1), λ h. absurd (omega arith))
 
 -- the first sample and the first macroblock of a group are the picture's
 low : (c : tie.In-loop Inv-loop μ-loop) → let a = c .before .before .args in let i = c .before .loop .c in (a .m + i ≤ a .at + 16 * i) × (a .at + 16 * i < 55507200)
@@ -73,10 +70,9 @@ loop-again c =
     let n = t .together .result in (
       omega (arith, e .0, less),
       record { of-dc = k .1 .1 .1 .1 .1 .1 .0 ∙ v .1 .of-dc; of-low = k .1 .1 .1 .1 .1 .1 .1 .0 ∙ v .1 .of-low; of-high = k .1 .1 .1 .1 .1 .1 .1 .1 .0 ∙ v .1 .of-high },
-      d .group .ensures .1 .1 .0,
+      d .group .ensures .1 .1,
       through-as (a .r * W + (l .loop .c + n)) (omega arith) (d .group .ensures .0),
       λ h m. d .group .ensures .1 .0 (e .1 .1 (omega (arith, less, m))) m,
-      neither (columns-more (a .samples .now) (16 * W) (a .at) 16 (16 * l .loop .c) (16 * n) refl (omega arith)) (v .5) (d .group .ensures .1 .1 .1),
     )
 
 same-length : tie.Need-same-length Inv-loop μ-loop
@@ -92,14 +88,7 @@ same-length-4 : tie.Need-same-length-4 Inv-loop μ-loop
 same-length-4 c = let l = c .before in l .loop .inv .2 ∙ sym (l .before .pre .0 .of-strip)
 
 returns : tie.Need-returns Inv-loop μ-loop
-returns c =
-    let l = c .before in
-    let a = l .before .args in
-    let W = a .size .width .0 in
-    let all : W ≤ l .loop .c = omega (arith, c .loop-test) in (
-      through-as (a .r * W + W) (omega (arith, all, l .loop .inv .0)) (l .loop .inv .3),
-      (l .loop .inv .2, λ e. whole-rows (a .samples .now) (16 * W) (a .at) 16 (16 * l .loop .c) (omega (arith, all)) (omega arith) (l .loop .inv .5 e)),
-    )
+returns c = let l = c .before in let a = l .before .args in let W = a .size .width .0 in (through-as (a .r * W + W) (omega (arith, c .loop-test, l .loop .inv .0)) (l .loop .inv .3), l .loop .inv .2)
 
 pub undo-row-spec : {M : Type 1} → statement M
 undo-row-spec =

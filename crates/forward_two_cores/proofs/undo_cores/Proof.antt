@@ -56,9 +56,14 @@ undo-row-requires c κs =
     let n = s .pre .1 .1 in
     ((s .pre .0, omega arith), ((v .5, v .6), (s .pre .1 .0, (omega (arith, n), omega (arith, n), omega (arith, n)))))
 
+-- its samples were looked at
+some-large-requires : tie.Need-some-large-requires Inv-loop μ-loop
+some-large-requires c κs = omega (arith, inside (turn c), (turn c) .before .before .before .before .pre .1 .0)
+
 loop-again : tie.Need-loop-again Inv-loop μ-loop
 loop-again c =
-    let d = c .before .before .before in
+    let h = c .before in
+    let d = h .before .before .before in
     let l = d .before .before .before .before .before in
     let v = l .loop .inv in
     let a = l .before .before .before .args in
@@ -69,10 +74,10 @@ loop-again c =
       omega arith,
       omega arith,
       omega arith,
-      among-as f 0 ((r + 1) * W) refl (omega arith) (among-more f 0 (r * W) (r * W + W) (omega arith) (omega arith) (v .4) (d .undo-row .ensures .0)),
+      among-as f 0 ((r + 1) * W) refl (omega arith) (among-more f 0 (r * W) (r * W + W) (omega arith) (omega arith) (v .4) (d .undo-row .ensures)),
       omega (arith, v .5),
       omega (arith, v .6),
-      neither (small-up-to (a .samples .now) (omega arith) (omega arith)) (v .7) (d .undo-row .ensures .1),
+      neither (small-up-to (a .samples .now) (omega arith) (omega arith)) (v .7) (c .some-large .ensures .0),
     )
 
 same-length : tie.Need-same-length Inv-loop μ-loop
@@ -104,5 +109,6 @@ pub undo-cores-spec : {M : Type 1} → statement M
 undo-cores-spec =
     tie.close
     (tie.spec Inv-loop μ-loop (λ c. search needs) (λ c. search needs) (λ c. search needs) loop-holds undo-row-requires
-    (λ c. omega (arith, inside (turn c))) (λ c. omega (arith, inside (turn c))) (λ c. omega (arith, inside (turn c)))
+    (λ c. omega (arith, inside (turn c))) some-large-requires
+    (λ c. omega (arith, inside (turn (c .before)))) (λ c. omega (arith, inside (turn (c .before)))) (λ c. omega (arith, inside (turn (c .before))))
     (λ c. omega arith) (λ c. omega arith) loop-again same-length same-length-2 same-length-3 returns)

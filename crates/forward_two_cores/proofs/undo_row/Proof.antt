@@ -1,8 +1,6 @@
--- Macroblock after macroblock: the blocks of those before the next are the samples' squares undone, the others as they were, and the
--- samples of those before the next were looked at.
+-- Macroblock after macroblock: the blocks of those before the next are the samples' squares undone, the others as they were.
 use Prim.Native.Nat.{ℕ, _+_, _-_, _*_, _≤_, _<_}
 use mathlib.Core.Path.{_≡_, refl}
-use mathlib.Core.Bool.{false}
 use mathlib.Core.List.{List}
 use native.Mathlib.Omega.{arith}
 use borrow.Author.Needs.{needs}
@@ -11,20 +9,18 @@ use lib.IntN.{ℤ}
 use Rattle.lifting.specs.Program.{undo}
 use Rattle.figures.specs.Figures.{core}
 use Rattle.picture.proofs.CheckLaws.{few-macroblocks}
-use Rattle.large_numbers.proofs.Small.{Rows, neither, columns-more, whole-rows}
 use Rattle.forward_two_cores.specs.Blocks.{blockOf, squareIn, Among, Replaced}
 use Rattle.forward_two_cores.proofs.Stores.{replaced-as, among-none, among-one, among-as, among-more, sample-square, macroblock-inside}
 use Rattle.forward_two_cores.proofs.undo_row.Statement.{statement}
 use Rattle.forward_two_cores.proofs.undo_row.Tie as tie
 
 abbrev Inv-loop : tie.InvT-loop
-Inv-loop r samples at dc₀ low₀ high₀ m across width w large₀ c₀ dc low high large c =
+Inv-loop r samples at dc₀ low₀ high₀ m across width w c₀ dc low high c =
     (c ≤ width) × (length dc ≡ length dc₀) × (length low ≡ length low₀) × (length high ≡ length high₀)
     × Replaced (Among m (m + c)) (λ t. undo core (squareIn width samples t)) (blockOf dc₀ low₀ high₀) (blockOf dc low high)
-    × (large ≡ false → Rows samples w at 16 (16 * c))
 
 abbrev μ-loop : tie.MeasureT-loop
-μ-loop r samples at dc₀ low₀ high₀ m across width w large₀ c₀ dc low high large c = width - c
+μ-loop r samples at dc₀ low₀ high₀ m across width w c₀ dc low high c = width - c
 
 -- the macroblock lies in the picture, and its samples among the samples
 inside : (c : tie.In-loop Inv-loop μ-loop) → let a = c .before .before .args in let W = a .size .width .0 in let n = W * a .size .height .0 in let x = c .before .loop .c in
@@ -37,16 +33,15 @@ inside c =
     (m .0, m .1, few-macroblocks z)
 
 loop-holds : tie.Need-loop-holds Inv-loop μ-loop
-loop-holds c = (omega arith, refl, refl, refl, among-as _ (c .args .m) (c .args .m + 0) refl (omega arith) (among-none (c .args .m) _ _), λ e y h i l m. absurd (omega arith))
+loop-holds c = (omega arith, refl, refl, refl, among-as _ (c .args .m) (c .args .m + 0) refl (omega arith) (among-none (c .args .m) _ _))
 
 undo-macroblock-of-requires : tie.Need-undo-macroblock-of-requires Inv-loop μ-loop
-undo-macroblock-of-requires c κs = let d = c .before .before .before .before in let n = d .before .before .pre .1 .1 in (omega (arith, inside d, n .0), (omega (arith, inside d, n .1), omega (arith, inside d, n .1), omega (arith, inside d, n .1)))
+undo-macroblock-of-requires c κs = let d = c .before .before .before in let n = d .before .before .pre .1 .1 in (omega (arith, inside d, n .0), (omega (arith, inside d, n .1), omega (arith, inside d, n .1), omega (arith, inside d, n .1)))
 
 loop-again : tie.Need-loop-again Inv-loop μ-loop
 loop-again c =
     let d = c .before .before .before in
-    let looked = d .before .before .before .before in
-    let l = looked .before .before in
+    let l = d .before .before .before .before .before in
     let s = l .before in
     let v = l .loop .inv in
     let W = s .args .size .width .0 in
@@ -54,14 +49,8 @@ loop-again c =
     let x = l .loop .c in
     let samples = s .args .samples .now in
     let f : ℕ → List ℤ = λ t. undo core (squareIn W samples t) in
-    let one = among-one f (m + x) (replaced-as (λ t e. sample-square (s .pre .0 .0 .wide) (s .args .r) x (omega arith) (s .pre .1 .0 .0) (s .pre .1 .0 .1) samples t e) (d .undo-macroblock-of .ensures)) in (
-      omega arith,
-      omega arith,
-      omega arith,
-      omega arith,
-      among-as f m (m + (x + 1)) refl (omega arith) (among-more f m (m + x) (m + x + 1) (omega arith) (omega arith) (v .4) one),
-      neither (columns-more samples (16 * W) (s .args .at) 16 (16 * x) 16 refl (omega arith)) (v .5) (looked .rows-large .ensures),
-    )
+    let one = among-one f (m + x) (replaced-as (λ t e. sample-square (s .pre .0 .0 .wide) (s .args .r) x (omega arith) (s .pre .1 .0 .0) (s .pre .1 .0 .1) samples t e) (d .undo-macroblock-of .ensures)) in
+    (omega arith, omega arith, omega arith, omega arith, among-as f m (m + (x + 1)) refl (omega arith) (among-more f m (m + x) (m + x + 1) (omega arith) (omega arith) (v .4) one))
 
 same-length : tie.Need-same-length Inv-loop μ-loop
 same-length c = c .before .loop .inv .1
@@ -78,14 +67,11 @@ returns c =
     let s = l .before in
     let a = s .args in
     let W = a .size .width .0 in
-    let first = s .pre .1 .0 .1 in (
-      among-as (λ t. undo core (squareIn W (a .samples .now) t)) (a .r * W) (a .r * W + W) first (omega (arith, first)) (l .loop .inv .4),
-      λ e. whole-rows (a .samples .now) (16 * W) (a .at) 16 (16 * l .loop .c) (omega arith) (omega arith) (l .loop .inv .5 e),
-    )
+    let first = s .pre .1 .0 .1 in
+    among-as (λ t. undo core (squareIn W (a .samples .now) t)) (a .r * W) (a .r * W + W) first (omega (arith, first)) (l .loop .inv .4)
 
 pub undo-row-spec : {M : Type 1} → statement M
 undo-row-spec =
     tie.close
-    (tie.spec Inv-loop μ-loop (λ c. search needs) (λ c. omega arith) loop-holds (λ c. omega (arith, inside c)) (λ c. omega (arith, inside c)) (λ c κs. omega (arith, inside c, c .before .before .pre .1 .1 .0))
-    (λ c. omega (arith, inside (c .before))) (λ c. omega (arith, inside (c .before))) (λ c. omega (arith, inside (c .before .before .before .before)))
+    (tie.spec Inv-loop μ-loop (λ c. search needs) (λ c. omega arith) loop-holds (λ c. omega (arith, inside c)) (λ c. omega (arith, inside c)) (λ c. omega (arith, inside (c .before .before .before)))
     undo-macroblock-of-requires (λ c. omega arith) (λ c. omega arith) loop-again same-length same-length-2 same-length-3 returns)

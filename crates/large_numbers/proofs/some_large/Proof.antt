@@ -1,52 +1,8 @@
--- Where the joined marks are below 2^26, each mark is, and so no number that was looked at is large.
-use Prim.Native.Nat.{ℕ, _+_, _-_, _≤_, _<_}
-use mathlib.Core.Path.{_≡_, subst}
+-- The look at the level's limit.
 use native.Mathlib.Omega.{arith}
 use borrow.Author.Needs.{needs}
-use borrow.Author.Tests.{leb-false}
-use lib.IntN.{natAbs}
-use Rattle.lifting.specs.Program.{at}
-use mir.Val.{SFits}
-use mir.Syntax.{w32}
-use Rattle.large_numbers.specs.Small.{Small, Fit}
-use Rattle.large_numbers.proofs.Marks.{read-fits, marked, joined}
-use Rattle.large_numbers.proofs.Small.{small-none, one-more}
 use Rattle.large_numbers.proofs.some_large.Statement.{statement}
 use Rattle.large_numbers.proofs.some_large.Tie as tie
 
-abbrev Inv-loop : tie.InvT-loop
-Inv-loop s from n marks₀ i₀ marks i = (marks < 67108864 → Small s from (from + i)) × Fit s from (from + i) × (i ≤ n)
-
-abbrev μ-loop : tie.MeasureT-loop
-μ-loop s from n marks₀ i₀ marks i = n - i
-
-loop-holds : tie.Need-loop-holds Inv-loop μ-loop
-loop-holds c = (λ h. small-none (c .args .s .now) (omega arith), λ i a b. absurd (omega arith), omega arith)
-
-loop-again : tie.Need-loop-again Inv-loop μ-loop
-loop-again c =
-    let d = c .before in
-    let l = d .before .before in
-    let x = l .before .args in
-    let k = x .from + l .loop .i in
-    let v = x .s .now in (
-      λ h.
-          let below = joined (l .loop .marks) (c .mark .result) 67108864 h in
-          one-more k (λ i. natAbs (at v i) ≤ 33554432) (l .loop .inv .0 (below .0)) (marked v k (d .mark-arg .given) (c .mark .ensures) (below .1)) (omega arith),
-      one-more k (λ i. SFits w32 (at v i)) (l .loop .inv .1) (read-fits v k (d .mark-arg .given)) (omega arith),
-      omega arith,
-    )
-
-returns : tie.Need-returns Inv-loop μ-loop
-returns c =
-    let l = c .before in
-    let x = l .before .args in
-    let e : l .loop .i ≡ x .n = omega arith in (
-      λ h. subst (λ (k : ℕ). Small (x .s .now) (x .from) (x .from + k)) e (l .loop .inv .0 (leb-false 67108864 (l .loop .marks) h)),
-      subst (λ (k : ℕ). Fit (x .s .now) (x .from) (x .from + k)) e (l .loop .inv .1),
-    )
-
 pub some-large-spec : {M : Type 1} → statement M
-some-large-spec =
-    tie.close
-    (tie.spec Inv-loop μ-loop loop-holds (λ c. search needs) (λ c. search needs) (λ c. omega arith) (λ c κs. tt) (λ c. search needs) (λ c. omega arith) loop-again returns)
+some-large-spec = tie.close (tie.spec (λ c κs. (c .pre, omega arith)) (λ c. c .some-above .ensures))

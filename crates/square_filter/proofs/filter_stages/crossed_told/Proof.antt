@@ -1,6 +1,5 @@
 -- The uses of the stage in turn, each by what its call ensures and tells.
 use mathlib.Core.Path.{ap}
-use mathlib.Core.Bool.{true}
 use Rattle.lifting.specs.Program.{get, put}
 use Rattle.lifting.proofs.Traces.{_▸_, at-end, ran}
 use Rattle.figures.specs.Pieces.{crossedStage}
@@ -35,9 +34,10 @@ returns c63 =
     let c7 = c9 .before .before in
     let c6 = c7 .before in
     let c5 = c6 .before in
-    let v = c5 .before .before .before .before .before .args .v in
+    let a = c5 .before .before .before .before .before .args in
+    let v = a .v in
     let read = ap mirrored (quads v (told _ (c6 .struct-told2 .given)) (told _ (c5 .struct-told .given)) (told _ (c10 .struct-told4 .given)) (told _ (c9 .struct-told3 .given))) in
-    ran true crossedStage _ read
+    ran (a .tell) crossedStage _ read
     ((pair (c45 .struct-told23 .given) (c7 .rotation-told .ensures .0), c7 .rotation-told .ensures .1)
     ▸ (pair (c51 .struct-told29 .given) (c11 .rotation-told2 .ensures .0), c11 .rotation-told2 .ensures .1)
     ▸ (pair (c44 .struct-told22 .given) (c15 .rotation-told3 .ensures .0), c15 .rotation-told3 .ensures .1)
