@@ -301,7 +301,7 @@ fn windows_down(r: usize, height: usize) -> usize
 }
 
 // A level with filters: the strip goes over the picture. Whether a row of macroblocks has a large sample is seen before the strip goes over it: the look
-// brings the samples into the cache in the order of memory, which in a wide picture takes less time than the look does.
+// brings the samples into the cache in the order of memory, which in a wide picture saves more time than the look takes.
 fn undo_filtered(
     size: Size,
     samples: &[i32],
