@@ -11,6 +11,7 @@ ghost use Rattle.picture.specs.Planes.{Lengths, planes, table, coefficients, bl
 ghost use Rattle.picture.specs.Sizes.{macroblocks, Sized};
 use core_transform::core_wraps;
 use grid::get_four;
+use large_numbers::SQUARE_LIMIT;
 use large_numbers::above;
 use large_numbers::some_above;
 use picture::size::Size;
@@ -32,8 +33,8 @@ fn block_wraps(zero: i32, rest: &[i32], from: usize) -> bool
     requires { ⌜ from + 14 < length (now rest) ⌝ }
     ensures { λ r. ⌜ r ≡ wraps core (table 16 (coefficients zero (λ k. number (now (rest .entry)) (from + k)))) ⌝ }
 {
-    let large_zero = above(zero, 134217728);
-    let large_rest = some_above(rest, from, 15, 134217728);
+    let large_zero = above(zero, SQUARE_LIMIT);
+    let large_rest = some_above(rest, from, 15, SQUARE_LIMIT);
     if large_zero | large_rest {
         return judge_block(zero, rest, from);
     }

@@ -10,6 +10,7 @@ ghost use Rattle.picture.specs.Level.{cell, squareFilterAt, fourFilterAt, squar
 use four_filter::unfiltered_wraps;
 use grid::get_four;
 use grid::get_square;
+use large_numbers::SQUARE_LIMIT;
 use large_numbers::some_above;
 use square_filter::undo_square_filter_wraps;
 
@@ -31,10 +32,10 @@ fn window_wraps(grid: &[i32], w: usize, at: usize) -> bool
     let second = at + w;
     let third = second + w;
     let fourth = third + w;
-    let in_first = some_above(grid, at, 4, 134217728);
-    let in_second = some_above(grid, second, 4, 134217728);
-    let in_third = some_above(grid, third, 4, 134217728);
-    let in_fourth = some_above(grid, fourth, 4, 134217728);
+    let in_first = some_above(grid, at, 4, SQUARE_LIMIT);
+    let in_second = some_above(grid, second, 4, SQUARE_LIMIT);
+    let in_third = some_above(grid, third, 4, SQUARE_LIMIT);
+    let in_fourth = some_above(grid, fourth, 4, SQUARE_LIMIT);
     if in_first | in_second | in_third | in_fourth {
         return judge_window(grid, w, at);
     }

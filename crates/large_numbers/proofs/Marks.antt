@@ -2,7 +2,6 @@
 use Prim.Native.Nat.{ℕ, suc, _-_, _*_, _≤_, _<_}
 use mathlib.Core.Path.{_≡_, refl, ap, _∙_, subst}
 use mathlib.Core.Bool.{Bool, true, false, cond}
-use mathlib.Core.List.{List}
 use native.Mathlib.Omega.{arith}
 use lib.Bits.{bitOr, or-add-and, and-le-l, and-le-r}
 use lib.Dec.{T, ltb}
@@ -12,7 +11,6 @@ use lib.Signed.{mag, ltZ}
 use mir.Val.{SFits, toZ, ofZ}
 use mir.Syntax.{w32, w64}
 use mir.ValLaws.{toZ-ofZ, toZ-pos}
-use Rattle.lifting.specs.Program.{at}
 use Rattle.lifting.specs.Wrap.{low32}
 use Rattle.lifting.proofs.Bits.{back, mag-add, wide}
 

@@ -1,4 +1,4 @@
-// The look for large numbers: where a level's numbers are all at most 2^25 in magnitude, or an operator's at most 2^27, no sum wraps.
+// The look for large numbers: where a level's numbers are all at most 2^25 in magnitude, or those of a block or window at most 2^27, no sum of it wraps.
 ghost use mathlib.Core.Path.{_≡_};
 ghost use mathlib.Core.Bool.{false};
 ghost use Prim.Native.Nat.{_+_, _≤_};
@@ -8,6 +8,12 @@ ghost use Rattle.lifting.specs.Row.{Row};
 ghost use Rattle.lifting.specs.Wrap.{low32};
 ghost use Rattle.lifting.specs.Wraps.{Within};
 ghost use Rattle.large_numbers.specs.Small.{AtMost, Small, Fit};
+
+// Up to this magnitude the numbers of a level make no sum of it wrap. A power of two, as the next is, so that marks can be joined by bits.
+pub const LEVEL_LIMIT: u32 = 33554432;
+
+// Up to this one the sixteen numbers of a block or window make no sum of it wrap.
+pub const SQUARE_LIMIT: u32 = 134217728;
 
 // x + limit as 32 bits without a sign: below 2 * limit only if x is at most the limit in magnitude. It compiles to one sum.
 fn mark(x: i32, limit: u32) -> u32
@@ -50,7 +56,7 @@ pub fn some_large(s: &[i32], from: usize, n: usize) -> bool
     ensures { λ r. ⌜ (r ≡ false → Small (now (s .entry)) from (from + n)) ⌝ }
     ensures { λ r. ⌜ Fit (now (s .entry)) from (from + n) ⌝ }
 {
-    some_above(s, from, n, 33554432)
+    some_above(s, from, n, LEVEL_LIMIT)
 }
 
 pub fn any_large(s: &[i32]) -> bool

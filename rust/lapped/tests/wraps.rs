@@ -145,7 +145,11 @@ fn least_that_wraps(operator: fn([Telling; 16]) -> [Telling; 16]) -> (u32, i32) 
             let (mut calm, mut wrapping) = (CALM_ALONE, least.1 - 1);
             while wrapping - calm > 1 {
                 let middle = calm + (wrapping - calm) / 2;
-                *(if wraps(signs, middle) { &mut wrapping } else { &mut calm }) = middle;
+                if wraps(signs, middle) {
+                    wrapping = middle;
+                } else {
+                    calm = middle;
+                }
             }
             least = (signs, wrapping);
         }
@@ -168,15 +172,17 @@ fn blocks_and_windows_of_the_least_numbers_that_wrap() {
         assert_eq!(cores, magnitude == least, "{what}");
         assert_agrees(Mode::Unfiltered, shape, &planes, &what);
     }
+    let window = &uses(1, 16, 16)[0];
     let (signs, least) = least_that_wraps(forward::overlap_square);
     assert!((CALM_ALONE..2 * CALM_ALONE).contains(&least), "{least}");
     for magnitude in [least - 1, least] {
         let mut samples = vec![0; 256];
-        for (k, number) in block_of(signs, magnitude).into_iter().enumerate() {
-            samples[(2 + k / 4) * 16 + 2 + k % 4] = number;
+        for (&place, number) in window.iter().zip(block_of(signs, magnitude)) {
+            samples[place] = number;
         }
         let what = format!("a window of numbers of magnitude {magnitude}");
-        assert_agrees_of_samples(Mode::SampleLevel, shape, &samples, &what);
+        let wraps = assert_agrees_of_samples(Mode::SampleLevel, shape, &samples, &what);
+        assert_eq!(wraps, magnitude == least, "{what}");
     }
 }
 

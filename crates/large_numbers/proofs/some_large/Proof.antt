@@ -1,6 +1,5 @@
 -- The look at the level's limit.
 use native.Mathlib.Omega.{arith}
-use borrow.Author.Needs.{needs}
 use Rattle.large_numbers.proofs.some_large.Statement.{statement}
 use Rattle.large_numbers.proofs.some_large.Tie as tie
 
