@@ -107,12 +107,12 @@ typedef struct {
 /* How much work the inverse of a picture is: the answer and, if it is 0, how often each operator
  * runs, at both levels together, and the bytes of the planes and of the samples; else zeros. All
  * fit 32 bits: there are at most 216825 macroblocks, each with 1024 bytes of planes, 1024 of
- * samples, and at most 24 uses of an operator. */
+ * samples, and at most 32 uses of an operator. */
 typedef struct {
     uint32_t number;
     uint32_t cores;          /* core transforms of 4 x 4 numbers */
     uint32_t square_filters; /* overlap filters of 4 x 4 numbers */
-    uint32_t four_filters;   /* overlap filters of four numbers, along the edges */
+    uint32_t four_filters;   /* overlap filters of four numbers, along the edges and at the corners */
     uint32_t plane_bytes, sample_bytes;
 } lapped_work;
 

@@ -6,8 +6,9 @@ ghost use lib.ListN.{length};
 ghost use Rattle.lifting.specs.Program.{each};
 ghost use Rattle.lifting.specs.Wraps.{undoWraps};
 ghost use Rattle.lifting.specs.AnyUse.{anyUse};
-ghost use Rattle.picture.specs.Level.{cell, squareFilterAt, fourFilterAt, squareFilters, rowFilters, columnFilters, alongEdges, filtersIf, filters as filterProgram};
+ghost use Rattle.picture.specs.Level.{cell, squareFilterAt, fourFilterAt, cornerFilterAt, squareFilters, rowFilters, columnFilters, alongEdges, cornerFilters, filtersIf, filters as filterProgram};
 use four_filter::unfiltered_wraps;
+use grid::get_corner;
 use grid::get_four;
 use grid::get_square;
 use large_numbers::SQUARE_LIMIT;
@@ -47,6 +48,13 @@ fn four_wraps(grid: &[i32], step: usize, at: usize) -> bool
     ensures { λ r. ⌜ r ≡ anyUse undoWraps (fourFilterAt step at) (now (grid .entry)) ⌝ }
 {
     unfiltered_wraps(get_four(grid, step, at))
+}
+
+fn corner_wraps(grid: &[i32], w: usize, at: usize) -> bool
+    requires { ⌜ at + w + 1 < length (now grid) ⌝ }
+    ensures { λ r. ⌜ r ≡ anyUse undoWraps (cornerFilterAt w at) (now (grid .entry)) ⌝ }
+{
+    unfiltered_wraps(get_corner(grid, w, at))
 }
 
 // ---- uses in a line
@@ -139,6 +147,21 @@ fn edge_columns_wrap(grid: &[i32], p: usize, q: usize) -> bool
     first | second | third | fourth
 }
 
+fn corners_wrap(grid: &[i32], p: usize, q: usize) -> bool
+    requires { ⌜ 16 * (p * q) ≤ length (now grid) ⌝ }
+    requires { ⌜ (0 < p) × (p ≤ 2100) × (0 < q) × (q ≤ 1652) ⌝ }
+    ensures { λ r. ⌜ r ≡ anyUse undoWraps (cornerFilters p q) (now (grid .entry)) ⌝ }
+{
+    let w = 4 * p;
+    let right = w - 2;
+    let bottom = (4 * q - 2) * w;
+    let top_left = corner_wraps(grid, w, 0);
+    let top_right = corner_wraps(grid, w, right);
+    let bottom_left = corner_wraps(grid, w, bottom);
+    let bottom_right = corner_wraps(grid, w, bottom + right);
+    top_left | top_right | bottom_left | bottom_right
+}
+
 fn filters_wrap(grid: &[i32], p: usize, q: usize) -> bool
     requires { ⌜ 16 * (p * q) ≤ length (now grid) ⌝ }
     requires { ⌜ (0 < p) × (p ≤ 2100) × (0 < q) × (q ≤ 1652) ⌝ }
@@ -150,7 +173,10 @@ fn filters_wrap(grid: &[i32], p: usize, q: usize) -> bool
     if edge_rows_wrap(grid, p, q) {
         return true;
     }
-    edge_columns_wrap(grid, p, q)
+    if edge_columns_wrap(grid, p, q) {
+        return true;
+    }
+    corners_wrap(grid, p, q)
 }
 
 // The same where the level is filtered.

@@ -14,7 +14,7 @@ use Rattle.figures.specs.Figures.{core, coreStages, hadamard, odd, oddOdd, rota
 use Rattle.forecast.specs.declared.LevelUses.{LevelUses}
 use Rattle.forecast.specs.Claims.{levelCounts, LevelClaim}
 use Rattle.forecast.specs.Parts.{usesIn, Squares, Few}
-use Rattle.picture.specs.Level.{coreAt, squareFilterAt, fourFilterAt, cores, squareFilters, rowFilters, columnFilters, alongEdges, filters, level}
+use Rattle.picture.specs.Level.{coreAt, squareFilterAt, fourFilterAt, cornerFilterAt, cores, squareFilters, rowFilters, columnFilters, alongEdges, cornerFilters, filters, level}
 
 -- ---- any operator
 
@@ -49,21 +49,27 @@ module _ (o : Operator) where
     edges-use : (n k : ℕ) (line : ℕ → Program) → ((i : ℕ) → uses o (line i) ≡ k) → uses o (alongEdges n line) ≡ 4 * k
     edges-use n k line h = simp uses-then (omega (arith, h 0, h 1, h (4 * n - 2), h (4 * n - 1)))
 
-    filters-use : uses o (filters p q) ≡ (q - 1) * ((p - 1) * perSquareFilter) + (4 * ((p - 1) * perFourFilter) + 4 * ((q - 1) * perFourFilter))
+    corners-use : uses o (cornerFilters p q) ≡ 4 * perFourFilter
+    unfolding cornerFilters cornerFilterAt fourFilterAt uses _then_
+    corners-use = omega arith
+
+    filters-use : uses o (filters p q) ≡ (q - 1) * ((p - 1) * perSquareFilter) + (4 * ((p - 1) * perFourFilter) + (4 * ((q - 1) * perFourFilter) + 4 * perFourFilter))
     unfolding filters
     filters-use =
         let rows = alongEdges q (rowFilters p) in
         let columns = alongEdges p (columnFilters p q) in
         omega (
           arith,
-          uses-then o (squareFilters p q) (rows then columns),
-          uses-then o rows columns,
+          uses-then o (squareFilters p q) (rows then columns then cornerFilters p q),
+          uses-then o rows (columns then cornerFilters p q),
+          uses-then o columns (cornerFilters p q),
           square-filters-use,
           edges-use q _ (rowFilters p) row-uses,
           edges-use p _ (columnFilters p q) column-uses,
+          corners-use,
         )
 
-    level-use : (filtered : Bool) → uses o (level filtered p q) ≡ p * q * perCore + cond filtered ((p - 1) * (q - 1) * perSquareFilter + (4 * (p - 1) + 4 * (q - 1)) * perFourFilter) 0
+    level-use : (filtered : Bool) → uses o (level filtered p q) ≡ p * q * perCore + cond filtered ((p - 1) * (q - 1) * perSquareFilter + (4 * (p - 1) + 4 * (q - 1) + 4) * perFourFilter) 0
     unfolding level uses
     level-use true = omega (arith, uses-then o (cores p q) (filters p q), cores-use, filters-use)
     level-use false = omega (arith, uses-then o (cores p q) end, cores-use)

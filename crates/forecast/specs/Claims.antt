@@ -1,4 +1,4 @@
--- What holds of every forecast: a level's uses are the counts of 02, b; a forecast's counts are the uses in the defined inverse, and its bytes are those that the inverse is lent.
+-- What holds of every forecast: a level's uses are the counts of 02, b and f; a forecast's counts are the uses in the defined inverse, and its bytes are those that the inverse is lent.
 use Prim.Native.Nat.{ℕ, _+_, _-_, _*_}
 use mathlib.Core.Path.{_≡_}
 use mathlib.Core.Bool.{Bool, cond}
@@ -18,13 +18,14 @@ use Rattle.forecast.specs.declared.LevelUses.{LevelUses}
 use Rattle.forecast.specs.Forecast.{forecastAnswer}
 use Rattle.forecast.specs.Parts.{usesIn}
 
--- a level of p squares across and q down has p q cores and, when filtered, (p - 1)(q - 1) square filters and 4 (p - 1) + 4 (q - 1) four-number filters
+-- a level of p squares across and q down has p q cores and, when filtered, (p - 1)(q - 1) square filters and 4 (p - 1) + 4 (q - 1) four-number filters along its edges
+-- and 4 at its corners (02, f)
 abbrev pub levelCounts : Bool → ℕ → ℕ → LevelUses
 levelCounts filtered p q =
     record {
       cores = p * q;
       «square_filters» = cond filtered ((p - 1) * (q - 1)) 0;
-      «four_filters» = cond filtered (4 * (p - 1) + 4 * (q - 1)) 0;
+      «four_filters» = cond filtered (4 * (p - 1) + 4 * (q - 1) + 4) 0;
     }
 
 abbrev pub LevelClaim : Type 0

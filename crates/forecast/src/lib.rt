@@ -10,7 +10,7 @@ use picture::mode::Mode;
 use picture::size::Size;
 
 // The number, and, where that is 0, how often the inverse uses each operator of a level, and the bytes of the planes and of the samples.
-// All fit 32 bits: for each of at most 216,825 macroblocks there are 1024 bytes, 222,028,800 in all, and at most 24 uses of an operator.
+// All fit 32 bits: for each of at most 216,825 macroblocks there are 1024 bytes, 222,028,800 in all, and at most 32 uses of an operator.
 #[repr(C)]
 pub struct Work {
     pub number: u32,
@@ -38,7 +38,7 @@ fn level_uses(filtered: bool, p: u32, q: u32) -> LevelUses
         return LevelUses {
             cores,
             square_filters: (p - 1) * (q - 1),
-            four_filters: 4 * (p - 1) + 4 * (q - 1),
+            four_filters: 4 * (p - 1) + 4 * (q - 1) + 4,
         };
     }
     LevelUses {

@@ -1,5 +1,5 @@
--- Where rows and lines of squares lie. A line of uses along a row, or down a column, is the level's filters of that row or column; and the filters one
--- stage after another.
+-- Where rows and lines of squares lie. A line of uses along a row, or down a column, is the level's filters of that row or column, and the
+-- corners of four squares are the level's; and the filters one stage after another.
 use Prim.Native.Nat.{ℕ, zero, suc, _+_, _-_, _*_, _≤_, _<_}
 use mathlib.Core.Path.{_≡_, refl, ap}
 use mathlib.Core.List.{List}
@@ -11,13 +11,13 @@ use Rattle.lifting.specs.Program.{Program, end, apply, FourFilter, undo, each, 
 use Rattle.lifting.proofs.Compose.{undo-then}
 use Rattle.figures.specs.Figures.{fourFilter}
 use Rattle.picture.specs.declared.size.Size.{Size}
-use Rattle.picture.specs.Level.{fourFilterAt, squareFilters, rowFilters, columnFilters, alongEdges, filters}
+use Rattle.picture.specs.Level.{cell, fourFilterAt, cornerFilterAt, squareFilters, rowFilters, columnFilters, alongEdges, cornerFilters, filters}
 use Rattle.picture.specs.Sizes.{Sized}
 use Rattle.picture.proofs.CheckLaws.{few-macroblocks}
 use Rattle.grid.proofs.Rows.{row-inside, row-above}
 use Rattle.forward_one_grid.specs.Held.{Held}
-use Rattle.forward_one_grid.proofs.Lines.{row-line, column-line}
-use Rattle.forward_one_filters.specs.Edges.{filterAcross, line, edges}
+use Rattle.forward_one_grid.proofs.Lines.{row-line, column-line, corner-is}
+use Rattle.forward_one_filters.specs.Edges.{filterAcross, filterIn, line, edges, corners}
 
 -- ---- squares
 
@@ -32,6 +32,13 @@ step-back from pace i h e = let up = row-above i pace h in (omega arith, omega a
 -- one use on, of n
 pub step-on : (from pace i n : ℕ) {t : ℕ} → i < n → t ≡ from + pace * i → (t + pace ≤ from + pace * n) × (t + pace ≡ from + pace * (i + 1))
 step-on from pace i n h e = let up = row-inside i n pace h in (omega arith, omega arith)
+
+-- the last square
+pub last-square : {size : Size} {dc low : List ℤ} → Held size dc low → (0 < length dc) × (length dc - 1 ≡ (size .height .0 - 1) * size .width .0 + (size .width .0 - 1))
+last-square {size} h =
+    let up = row-above (size .height .0) (size .width .0) (h .sized .tall) in
+    let wide = h .sized .wide in
+    (omega (arith, h .of-dc), omega (arith, h .of-dc))
 
 -- the bottom row of squares
 pub bottom-row : {size : Size} {dc low : List ℤ} → Held size dc low → (size .width .0 ≤ length dc) × (length dc - size .width .0 ≡ (size .height .0 - 1) * size .width .0)
@@ -52,6 +59,12 @@ pub edges-parts : (size : Size) (far pace side step n : ℕ) (v : List ℤ) {v1 
     → v3 ≡ undo (line size 0 pace side step n) v2 → v4 ≡ undo (line size 0 pace 0 step n) v3 → v4 ≡ undo (edges size far pace side step n) v
 unfolding edges
 edges-parts size far pace side step n v e f g h = rw (h, g, f, e) (simp undo-then)
+
+-- and four corners
+pub corners-parts : (size : Size) (right bottom last : ℕ) (v : List ℤ) {v1 v2 v3 v4 : List ℤ} → v1 ≡ undo (filterIn size last 10) v → v2 ≡ undo (filterIn size bottom 8) v1
+    → v3 ≡ undo (filterIn size right 2) v2 → v4 ≡ undo (filterIn size 0 0) v3 → v4 ≡ undo (corners size right bottom last) v
+unfolding corners
+corners-parts size right bottom last v e f g h = rw (h, g, f, e) (simp undo-then)
 
 module _ (size : Size) (sized : Sized size) where
   abbrev W : ℕ
@@ -85,8 +98,22 @@ module _ (size : Size) (sized : Sized size) where
       (column-is (W - 1) (2 * 1) (W - 1) 2 (4 * W - 2) refl (omega arith) refl (omega arith) (omega arith))
       (column-is (W - 1) (3 * 1) (W - 1) 3 (4 * W - 1) refl (omega arith) refl (omega arith) (omega arith))
 
-  -- the filters, one stage after another; the bottom row of squares begins with square `bottom`
-  pub filters-parts : {bottom : ℕ} → bottom ≡ (H - 1) * W → (v : List ℤ) {v1 v2 v3 : List ℤ} → v1 ≡ undo (edges size (W - 1) W 1 4 (H - 1)) v → v2 ≡ undo (edges size bottom 1 4 1 (W - 1)) v1
-      → v3 ≡ undo (squareFilters W H) v2 → v3 ≡ undo (filters W H) v
+  -- the corner of square (j, i) from its row y and column x on
+  one-corner : (t l j i y x row column : ℕ) → t ≡ j * W + i → i < W → x < 3 → l ≡ 4 * y + x → row ≡ 4 * j + y → column ≡ 4 * i + x → filterIn size t l ≡ cornerFilterAt (4 * W) (cell W row column)
+  unfolding filterIn cornerFilterAt
+  one-corner t l j i y x row column e h m f g k = rw (f, g, k) (ap (λ ps. apply FourFilter fourFilter ps end) (corner-is size t j i y x e h m))
+
+  pub corners-are : (bottom last : ℕ) → bottom ≡ (H - 1) * W → last ≡ (H - 1) * W + (W - 1) → corners size (W - 1) bottom last ≡ cornerFilters W H
+  unfolding corners cornerFilters
+  corners-are bottom last e f =
+      let wide = sized .wide in
+      let tall = sized .tall in
+      four-same (one-corner 0 0 0 0 0 0 0 0 (omega arith) wide (omega arith) refl refl refl) (one-corner (W - 1) 2 0 (W - 1) 0 2 0 (4 * W - 2) (omega arith) (omega arith) (omega arith) refl refl (omega arith))
+      (one-corner bottom 8 (H - 1) 0 2 0 (4 * H - 2) 0 (omega arith) wide (omega arith) refl (omega arith) refl)
+      (one-corner last 10 (H - 1) (W - 1) 2 2 (4 * H - 2) (4 * W - 2) f (omega arith) (omega arith) refl (omega arith) (omega arith))
+
+  -- the filters, one stage after another; the bottom row of squares begins with square `bottom` and ends with square `last`
+  pub filters-parts : {bottom last : ℕ} → bottom ≡ (H - 1) * W → last ≡ (H - 1) * W + (W - 1) → (v : List ℤ) {v1 v2 v3 v4 : List ℤ} → v1 ≡ undo (corners size (W - 1) bottom last) v
+      → v2 ≡ undo (edges size (W - 1) W 1 4 (H - 1)) v1 → v3 ≡ undo (edges size bottom 1 4 1 (W - 1)) v2 → v4 ≡ undo (squareFilters W H) v3 → v4 ≡ undo (filters W H) v
   unfolding filters
-  filters-parts {bottom} b v e f g = rw (g, f, e, rows-are bottom b, columns-are) (simp undo-then)
+  filters-parts {bottom} {last} b l v d e f g = rw (g, f, e, d, rows-are bottom b, columns-are, corners-are bottom last b l) (simp undo-then)

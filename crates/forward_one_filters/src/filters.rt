@@ -5,8 +5,9 @@ ghost use Rattle.lifting.specs.Program.{undo};
 ghost use Rattle.picture.specs.Level.{squareFilters, filters};
 ghost use Rattle.picture.specs.Sizes.{macroblocks};
 ghost use Rattle.forward_one_grid.specs.Held.{numbers, over, Held};
-ghost use Rattle.forward_one_filters.specs.Edges.{line, edges};
+ghost use Rattle.forward_one_filters.specs.Edges.{line, edges, corners};
 ghost use Rattle.forward_one_filters.specs.Windows.{filtersOfRow};
+use crate::uses::undo_corner_filter;
 use crate::uses::undo_four_filter;
 use crate::windows::undo_group;
 use forward_one_grid::group;
@@ -63,6 +64,26 @@ fn undo_edges(
     undo_line(size, dc, low, 0, near, pace, 0, step, n);
 }
 
+// The corners of the grid: those of its last square, of the first in the bottom row, of the last in the top row, and of the first.
+fn undo_corners(
+    size: Size,
+    dc: &mut [i32],
+    low: &mut [i32],
+    right: usize,
+    bottom: usize,
+    last: usize,
+)
+    requires { ⌜ Held size (now dc) (now low) ⌝ }
+    requires { ⌜ (right < macroblocks size) × (bottom < macroblocks size) × (last < macroblocks size) ⌝ }
+    ensures { λ r. ⌜ numbers size (now (dc .exit)) (now (low .exit)) ≡
+        undo (corners size right bottom last) (numbers size (now (dc .entry)) (now (low .entry))) ⌝ }
+{
+    undo_corner_filter(size, dc, low, last, 10);
+    undo_corner_filter(size, dc, low, bottom, 8);
+    undo_corner_filter(size, dc, low, right, 2);
+    undo_corner_filter(size, dc, low, 0, 0);
+}
+
 // The square filters between the squares in rows j, which begins with square t, and j + 1.
 fn undo_squares_across(size: Size, dc: &mut [i32], low: &mut [i32], j: usize, t: usize)
     requires { ⌜ Held size (now dc) (now low) ⌝ }
@@ -91,7 +112,7 @@ fn undo_square_filters(size: Size, dc: &mut [i32], low: &mut [i32])
     }
 }
 
-// The two rightmost and the two leftmost columns, the bottom two and the top two rows, and then the squares.
+// The corners, the two rightmost and the two leftmost columns, the bottom two and the top two rows, and then the squares.
 pub fn undo_filters(size: Size, dc: &mut [i32], low: &mut [i32])
     requires { ⌜ Held size (now dc) (now low) ⌝ }
     ensures { λ r. ⌜ numbers size (now (dc .exit)) (now (low .exit)) ≡ undo (over size filters) (numbers size (now (dc .entry)) (now (low .entry))) ⌝ }
@@ -99,6 +120,8 @@ pub fn undo_filters(size: Size, dc: &mut [i32], low: &mut [i32])
     let width = size.width.0 as usize;
     let height = size.height.0 as usize;
     let bottom = dc.len() - width;
+    let last = dc.len() - 1;
+    undo_corners(size, dc, low, width - 1, bottom, last);
     undo_edges(size, dc, low, width - 1, bottom, width, 1, 4, height - 1);
     undo_edges(size, dc, low, bottom, width - 1, 1, 4, 1, width - 1);
     undo_square_filters(size, dc, low);

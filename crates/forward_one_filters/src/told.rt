@@ -6,9 +6,10 @@ ghost use Rattle.lifting.specs.AnyUse.{anyUse};
 ghost use Rattle.picture.specs.Level.{squareFilters, filtersIf, filters as filterProgram};
 ghost use Rattle.picture.specs.Sizes.{macroblocks};
 ghost use Rattle.forward_one_grid.specs.Held.{numbers, over, Held};
-ghost use Rattle.forward_one_filters.specs.Edges.{filterAcross, line, edges};
+ghost use Rattle.forward_one_filters.specs.Edges.{filterAcross, filterIn, line, edges, corners};
 ghost use Rattle.forward_one_filters.specs.Windows.{filterOn, filtersOfRow};
 use forward_one_grid::get_across;
+use forward_one_grid::get_corner;
 use forward_one_grid::window::get_window;
 use four_filter::unfiltered_wraps;
 use picture::size::Size;
@@ -38,6 +39,14 @@ fn four_wraps(
     ensures { λ r. ⌜ r ≡ anyUse undoWraps (filterAcross size t u l step) (numbers size (now (dc .entry)) (now (low .entry))) ⌝ }
 {
     unfiltered_wraps(get_across(size, dc, low, t, u, l, step))
+}
+
+fn corner_wraps(size: Size, dc: &[i32], low: &[i32], t: usize, l: usize) -> bool
+    requires { ⌜ Held size (now dc) (now low) ⌝ }
+    requires { ⌜ (t < macroblocks size) × (l + 5 < 16) ⌝ }
+    ensures { λ r. ⌜ r ≡ anyUse undoWraps (filterIn size t l) (numbers size (now (dc .entry)) (now (low .entry))) ⌝ }
+{
+    unfiltered_wraps(get_corner(size, dc, low, t, l))
 }
 
 // ---- uses in a line
@@ -106,6 +115,26 @@ fn edges_wrap(
     first | second | third | fourth
 }
 
+// The corners, as `corners` has them.
+fn corners_wrap(
+    size: Size,
+    dc: &[i32],
+    low: &[i32],
+    right: usize,
+    bottom: usize,
+    last: usize,
+) -> bool
+    requires { ⌜ Held size (now dc) (now low) ⌝ }
+    requires { ⌜ (right < macroblocks size) × (bottom < macroblocks size) × (last < macroblocks size) ⌝ }
+    ensures { λ r. ⌜ r ≡ anyUse undoWraps (corners size right bottom last) (numbers size (now (dc .entry)) (now (low .entry))) ⌝ }
+{
+    let top_left = corner_wraps(size, dc, low, 0, 0);
+    let top_right = corner_wraps(size, dc, low, right, 2);
+    let bottom_left = corner_wraps(size, dc, low, bottom, 8);
+    let bottom_right = corner_wraps(size, dc, low, last, 10);
+    top_left | top_right | bottom_left | bottom_right
+}
+
 fn windows_wrap(size: Size, dc: &[i32], low: &[i32]) -> bool
     requires { ⌜ Held size (now dc) (now low) ⌝ }
     ensures { λ r. ⌜ r ≡ anyUse undoWraps (over size squareFilters) (numbers size (now (dc .entry)) (now (low .entry))) ⌝ }
@@ -135,7 +164,10 @@ fn filters_wrap(size: Size, dc: &[i32], low: &[i32]) -> bool
     if edges_wrap(size, dc, low, bottom, 1, 4, 1, width - 1) {
         return true;
     }
-    edges_wrap(size, dc, low, width - 1, width, 1, 4, height - 1)
+    if edges_wrap(size, dc, low, width - 1, width, 1, 4, height - 1) {
+        return true;
+    }
+    corners_wrap(size, dc, low, width - 1, bottom, dc.len() - 1)
 }
 
 // The same where the level is filtered.

@@ -1,4 +1,4 @@
--- Four numbers read or stored one after another are a line across an edge, and such a line is a strip of the grid; four lines are a window.
+-- Four numbers read or stored one after another are a line across an edge, or a corner of a square, and these are strips and corners of the grid; four lines are a window.
 use Prim.Native.Nat.{ℕ, _+_, _*_, _/_, _%_, _≤_, _<_}
 use mathlib.Core.Path.{_≡_, refl, _∙_, ap}
 use mathlib.Core.List.{List, [], _∷_}
@@ -12,12 +12,12 @@ use Rattle.lifting.proofs.Bits.{back}
 use Rattle.figures.specs.Block.{four, flat}
 use Rattle.figures.proofs.Parts.{kept}
 use Rattle.picture.specs.declared.size.Size.{Size}
-use Rattle.picture.specs.Level.{cell, strip, square}
+use Rattle.picture.specs.Level.{cell, strip, square, corner as cornerAt}
 use Rattle.picture.specs.Planes.{place}
 use Rattle.picture.specs.Sizes.{macroblocks, Sized}
 use Rattle.picture.proofs.CheckLaws.{few}
 use Rattle.grid.proofs.Squares.{square-read, square-stored}
-use Rattle.forward_one_grid.specs.Held.{across}
+use Rattle.forward_one_grid.specs.Held.{across, cornerOf}
 
 -- ---- four reads, and four stores
 
@@ -67,6 +67,14 @@ module _ (size : Size) (t u j i : ℕ) where
       (place-is t j i (c + 3 * 4) 3 c e h (omega arith) (omega arith) ∙ omega arith)
       (place-is u (j + 1) i c 0 c (omega arith) h (omega arith) (omega arith) ∙ omega arith)
       (place-is u (j + 1) i (c + 4) 1 c (omega arith) h (omega arith) (omega arith) ∙ omega arith)
+
+-- from row y and column x of square (j, i) on
+pub corner-is : (size : Size) (t j i y x : ℕ) → t ≡ j * size .width .0 + i → i < size .width .0 → x < 3 → cornerOf size t (4 * y + x) ≡ cornerAt (4 * size .width .0) (cell (size .width .0) (4 * j + y) (4 * i + x))
+corner-is size t j i y x e h l =
+    fours (place-is t j i (4 * y + x) y x e h (omega arith) (omega arith))
+    (place-is t j i (4 * y + x + 1) y (x + 1) e h (omega arith) (omega arith) ∙ omega arith)
+    (place-is t j i (4 * y + x + 4) (y + 1) x e h (omega arith) (omega arith) ∙ omega arith)
+    (place-is t j i (4 * y + x + 5) (y + 1) (x + 1) e h (omega arith) (omega arith) ∙ omega arith)
 
 -- ---- windows
 

@@ -31,6 +31,12 @@ across size t u l step =
     let W : ℕ = size .width .0 in
     place W t (l + 2 * step) ∷ place W t (l + 3 * step) ∷ place W u l ∷ place W u (l + step) ∷ []
 
+-- the corner of square t that begins at its coefficient l, row by row
+abbrev pub cornerOf : Size → ℕ → ℕ → List ℕ
+cornerOf size t l =
+    let W : ℕ = size .width .0 in
+    place W t l ∷ place W t (l + 1) ∷ place W t (l + 4) ∷ place W t (l + 5) ∷ []
+
 -- window (j, i) lies over the corner of squares (j, i), (j, i + 1), (j + 1, i) and (j + 1, i + 1): the place of its first number, and all its places
 abbrev pub corner : Size → ℕ → ℕ → ℕ
 corner size j i = cell (size .width .0) (4 * j + 2) (4 * i + 2)

@@ -1,4 +1,4 @@
-// Level one's grid where it lies, in DC and low-pass: its numbers read and stored by square and coefficient, and by fours across an edge.
+// Level one's grid where it lies, in DC and low-pass: its numbers read and stored by square and coefficient, by fours across an edge, and by corners.
 ghost use mathlib.Core.Path.{_≡_};
 ghost use Prim.Native.Nat.{_+_, _*_, _<_, _≤_};
 ghost use lib.ListN.{set};
@@ -6,7 +6,7 @@ ghost use Rattle.lifting.specs.Program.{at, get, put};
 ghost use Rattle.figures.specs.Block.{four};
 ghost use Rattle.picture.specs.Planes.{place};
 ghost use Rattle.picture.specs.Sizes.{macroblocks};
-ghost use Rattle.forward_one_grid.specs.Held.{numbers, Held, across};
+ghost use Rattle.forward_one_grid.specs.Held.{numbers, Held, across, cornerOf};
 use picture::size::Size;
 
 pub mod window; // window.rt: windows over four squares
@@ -88,4 +88,30 @@ pub fn put_across(
     put_number(size, dc, low, t, l + 3 * step, v[1]);
     put_number(size, dc, low, u, l, v[2]);
     put_number(size, dc, low, u, l + step, v[3]);
+}
+
+// The corner of square t that begins at its coefficient l: two numbers of a row, and the two below them.
+pub fn get_corner(size: Size, dc: &[i32], low: &[i32], t: usize, l: usize) -> [i32; 4]
+    requires { ⌜ Held size (now dc) (now low) ⌝ }
+    requires { ⌜ (t < macroblocks size) × (l + 5 < 16) ⌝ }
+    ensures { λ v. ⌜ four v ≡ get (cornerOf size t l) (numbers size (now (dc .entry)) (now (low .entry))) ⌝ }
+{
+    [
+        number(size, dc, low, t, l),
+        number(size, dc, low, t, l + 1),
+        number(size, dc, low, t, l + 4),
+        number(size, dc, low, t, l + 5),
+    ]
+}
+
+pub fn put_corner(size: Size, dc: &mut [i32], low: &mut [i32], t: usize, l: usize, v: [i32; 4])
+    requires { ⌜ Held size (now dc) (now low) ⌝ }
+    requires { ⌜ (t < macroblocks size) × (l + 5 < 16) ⌝ }
+    ensures { λ r. ⌜ numbers size (now (dc .exit)) (now (low .exit)) ≡
+        put (cornerOf size t l) (four v) (numbers size (now (dc .entry)) (now (low .entry))) ⌝ }
+{
+    put_number(size, dc, low, t, l, v[0]);
+    put_number(size, dc, low, t, l + 1, v[1]);
+    put_number(size, dc, low, t, l + 4, v[2]);
+    put_number(size, dc, low, t, l + 5, v[3]);
 }

@@ -1,5 +1,4 @@
--- Each use of a filter is alone in its rectangle of the grid: all others lie in other rows or columns. So the filters undone are, there, that one use undone,
--- and at a corner nothing.
+-- Each use of a filter is alone in its rectangle of the grid: all others lie in other rows or columns. So the filters undone are, there, that one use undone.
 use Prim.Native.Nat.{ℕ, zero, suc, _+_, _-_, _*_, _≤_, _<_}
 use mathlib.Core.Path.{_≡_, refl, sym, _∙_, ap, subst}
 use mathlib.Core.Logic.{_⊎_, inl, inr, by-cases}
@@ -11,10 +10,10 @@ use Rattle.lifting.specs.Program.{Program, end, apply, SquareFilter, FourFilter
 use Rattle.lifting.proofs.Between.{All, none-left}
 use Rattle.lifting.proofs.Locality.{Agree, use-inside, use-outside}
 use Rattle.figures.specs.Figures.{squareFilter, fourFilter}
-use Rattle.picture.specs.Level.{cell, strip, square, squareFilterAt, fourFilterAt, squareFilters, rowFilters, columnFilters, alongEdges, filters}
+use Rattle.picture.specs.Level.{cell, strip, square, corner, squareFilterAt, fourFilterAt, cornerFilterAt, squareFilters, rowFilters, columnFilters, alongEdges, cornerFilters, filters}
 use Rattle.picture.proofs.Cells.{all-strip, all-square}
 use Rattle.picture.proofs.Alone.{Does, nothing-then, then-nothing, one-of}
-use Rattle.forward_two_edges.specs.Unfiltered.{Rectangle, Edge}
+use Rattle.forward_two_edges.specs.Unfiltered.{Rectangle, Edge, First}
 
 -- ---- places of a use by row and column
 
@@ -38,6 +37,21 @@ module _ (p : ℕ) (P : ℕ → Type 0) where
       all-strip P (4 * p) (cell p r c) (h r (omega arith) (omega arith)) (subst P e1 (h (r + 1) (omega arith) (omega arith)))
       (subst P e2 (h (r + 1 + 1) (omega arith) (omega arith))) (subst P e3 (h (r + 1 + 1 + 1) (omega arith) (omega arith)))
 
+  pub all-corner : (r c : ℕ) → ((y x : ℕ) → r ≤ y → y < r + 2 → c ≤ x → x < c + 2 → P (cell p y x)) → All P (corner (4 * p) (cell p r c))
+  all-corner r c h =
+      let e = next-row r c in
+      let right : cell p r (c + 1) ≡ cell p r c + 1 = omega arith in
+      let below : cell p (r + 1) (c + 1) ≡ cell p r c + 4 * p + 1 = omega (arith, e) in (
+        h r c (omega arith) (omega arith) (omega arith) (omega arith),
+        (
+          subst P right (h r (c + 1) (omega arith) (omega arith) (omega arith) (omega arith)),
+          (
+            subst P e (h (r + 1) c (omega arith) (omega arith) (omega arith) (omega arith)),
+            (subst P below (h (r + 1) (c + 1) (omega arith) (omega arith) (omega arith) (omega arith)), tt),
+          ),
+        ),
+      )
+
   pub all-within : (r c : ℕ) → ((y x : ℕ) → r ≤ y → y < r + 4 → c ≤ x → x < c + 4 → P (cell p y x)) → All P (square (4 * p) (cell p r c))
   all-within r c h =
       let e1 = next-row r c in
@@ -58,6 +72,15 @@ four-ways n zero h e = inl refl
 four-ways n (suc zero) h e = inr (inl refl)
 four-ways n (suc (suc y)) h (inl e) = absurd (omega (arith, e))
 four-ways n (suc (suc y)) h (inr e) = by-cases (ℕ-discrete (suc (suc y)) (4 * n - 2)) (λ g. inr (inr (inl g))) (λ g. inr (inr (inr (omega (arith, e, g, h)))))
+
+-- the two lines from the first on
+pub first-edge : (n y z : ℕ) → First n y → y ≤ z → z < y + 2 → Edge n z
+first-edge n y z (inl e) h l = inl (omega (arith, e))
+first-edge n y z (inr e) h l = inr (omega (arith, e))
+
+pub first-inside : (n y : ℕ) → 0 < n → First n y → y + 1 < 4 * n
+first-inside n y h (inl e) = omega (arith, e)
+first-inside n y h (inr e) = omega (arith, e)
 
 -- ---- a rectangle of a grid of p by q squares, and uses outside it
 
@@ -86,6 +109,10 @@ module _ (p q : ℕ) {t b l r : ℕ} where
   column-out : (x j : ℕ) → x < 4 * p → ((y : ℕ) → 4 * j + 2 ≤ y → y < 4 * j + 6 → Out t b l r y x) → Does (Rectangle p t b l r) (fourFilterAt (4 * p) (cell p (4 * j + 2) x)) end
   unfolding fourFilterAt
   column-out x j hx h = use-outside (Rectangle p t b l r) FourFilter fourFilter _ (all-down p (λ k. ¬ Rectangle p t b l r k) (4 * j + 2) x (λ y e f. not-in y x hx (h y e (omega arith))))
+
+  corner-out : (y x : ℕ) → x + 1 < 4 * p → ((y' x' : ℕ) → y ≤ y' → y' < y + 2 → x ≤ x' → x' < x + 2 → Out t b l r y' x') → Does (Rectangle p t b l r) (cornerFilterAt (4 * p) (cell p y x)) end
+  unfolding cornerFilterAt
+  corner-out y x hx h = use-outside (Rectangle p t b l r) FourFilter fourFilter _ (all-corner p (λ k. ¬ Rectangle p t b l r k) y x (λ y' x' e f g k. not-in y' x' (omega arith) (h y' x' e f g k)))
 
   -- a stage in other rows or columns
   squares-out : ((j i y x : ℕ) → j < q - 1 → i < p - 1 → 4 * j + 2 ≤ y → y < 4 * j + 6 → 4 * i + 2 ≤ x → x < 4 * i + 6 → Out t b l r y x) → Does (Rectangle p t b l r) (squareFilters p q) end
@@ -144,6 +171,10 @@ module _ {C : ℕ → Type 0} where
       which (inr (inr (inr h))) =
           later (first (λ k. omega (arith, h, k))) (later (second (λ k. omega (arith, h, k))) (later (third (λ k. omega (arith, h, k))) (mine (4 * n - 1) h)))
 
+  none-of-corners : (p q : ℕ) → ((y x : ℕ) → First q y → First p x → Does C (cornerFilterAt (4 * p) (cell p y x)) end) → Does C (cornerFilters p q) end
+  unfolding cornerFilters
+  none-of-corners p q h = none (h _ _ (inl refl) (inl refl)) (none (h _ _ (inl refl) (inr refl)) (none (h _ _ (inr refl) (inl refl)) (h _ _ (inr refl) (inr refl))))
+
 -- ---- the places of a use lie in its rectangle
 
 module _ (p r c : ℕ) where
@@ -155,6 +186,9 @@ module _ (p r c : ℕ) where
 
   pub column-within : c < 4 * p → All (Rectangle p r (r + 4) c (c + 1)) (strip (4 * p) (cell p r c))
   column-within h = all-down p (Rectangle p r (r + 4) c (c + 1)) r c (λ y g k. in-rectangle p r (r + 4) c (c + 1) y c h g k (omega arith) (omega arith))
+
+  pub corner-within : c + 2 ≤ 4 * p → All (Rectangle p r (r + 2) c (c + 2)) (corner (4 * p) (cell p r c))
+  corner-within h = all-corner p (Rectangle p r (r + 2) c (c + 2)) r c (λ y x e f g k. in-rectangle p r (r + 2) c (c + 2) y x (omega arith) e f g k)
 
 -- ---- each use alone in its rectangle
 
@@ -175,6 +209,11 @@ ColumnOf p x j = Rectangle p (4 * j + 2) (4 * j + 2 + 4) x (x + 1)
 abbrev CornerOf : ℕ → ℕ → ℕ → ℕ → Type 0
 CornerOf p y x = Rectangle p y (y + 2) x (x + 2)
 
+-- the corners lie where a row at an edge meets a column at an edge
+corners-out : (p q : ℕ) {t b l r : ℕ} → 0 < p → ((y x : ℕ) → Edge q y → Edge p x → Out t b l r y x) → Does (Rectangle p t b l r) (cornerFilters p q) end
+corners-out p q wide h =
+    none-of-corners p q (λ y x fy fx. corner-out p q y x (first-inside p x wide fx) (λ y' x' e f g k. h y' x' (first-edge q y y' fy e f) (first-edge p x x' fx g k)))
+
 abbrev squareUse : ℕ → ℕ → ℕ → Program
 squareUse p j i = apply SquareFilter squareFilter (square (4 * p) (cell p (4 * j + 2) (4 * i + 2))) end
 
@@ -187,7 +226,7 @@ columnUse p x j = apply FourFilter fourFilter (strip (4 * p) (cell p (4 * j + 2)
 pub square-alone : (p q j i : ℕ) → j < q - 1 → i < p - 1
     → Does (Rectangle p (4 * j + 2) (4 * j + 2 + 4) (4 * i + 2) (4 * i + 2 + 4)) (filters p q) (squareFilterAt (4 * p) (cell p (4 * j + 2) (4 * i + 2)))
 unfolding squareFilterAt squareFilters filters
-square-alone p q j i hj hi = now own (none rows columns)
+square-alone p q j i hj hi = now own (none rows (none columns corners))
   where
     mine : Does (SquareOf p j i) (squareUse p j i) (squareUse p j i)
     mine = use-inside (SquareOf p j i) SquareFilter squareFilter _ (square-within p (4 * j + 2) (4 * i + 2) (omega arith))
@@ -204,10 +243,13 @@ square-alone p q j i hj hi = now own (none rows columns)
     columns : Does (SquareOf p j i) (alongEdges p (columnFilters p q)) end
     columns = none-of-four p (columnFilters p q) (omega arith) (λ x h e. columns-out p q x h (λ k y g m u e' f' g' u'. edge-off p i x hi e g' (omega arith)))
 
+    corners : Does (SquareOf p j i) (cornerFilters p q) end
+    corners = corners-out p q (omega arith) (λ y x ey ex e f g k. edge-off q j y hj ey e (omega arith))
+
 pub row-alone : (p q y i : ℕ) → y < 4 * q → Edge q y → i < p - 1
     → Does (Rectangle p y (y + 1) (4 * i + 2) (4 * i + 2 + 4)) (filters p q) (fourFilterAt 1 (cell p y (4 * i + 2)))
 unfolding fourFilterAt rowFilters filters
-row-alone p q y i hy edge hi = later squares (now rows columns)
+row-alone p q y i hy edge hi = later squares (now rows (none columns corners))
   where
     mine : Does (RowOf p y i) (rowUse p y i) (rowUse p y i)
     mine = use-inside (RowOf p y i) FourFilter fourFilter _ (row-within p y (4 * i + 2) (omega arith))
@@ -224,10 +266,13 @@ row-alone p q y i hy edge hi = later squares (now rows columns)
     columns : Does (RowOf p y i) (alongEdges p (columnFilters p q)) end
     columns = none-of-four p (columnFilters p q) (omega arith) (λ x h e. columns-out p q x h (λ j z hj m u e' f' g' u'. edge-off q j y hj edge (omega arith) (omega arith)))
 
+    corners : Does (RowOf p y i) (cornerFilters p q) end
+    corners = corners-out p q (omega arith) (λ z x ez ex e f g k. edge-off p i x hi ex g (omega arith))
+
 pub column-alone : (p q x j : ℕ) → x < 4 * p → Edge p x → j < q - 1
     → Does (Rectangle p (4 * j + 2) (4 * j + 2 + 4) x (x + 1)) (filters p q) (fourFilterAt (4 * p) (cell p (4 * j + 2) x))
 unfolding fourFilterAt columnFilters filters
-column-alone p q x j hx edge hj = later squares (later rows columns)
+column-alone p q x j hx edge hj = later squares (later rows (now columns corners))
   where
     mine : Does (ColumnOf p x j) (columnUse p x j) (columnUse p x j)
     mine = use-inside (ColumnOf p x j) FourFilter fourFilter _ (column-within p (4 * j + 2) x hx)
@@ -244,20 +289,40 @@ column-alone p q x j hx edge hj = later squares (later rows columns)
     columns : Does (ColumnOf p x j) (alongEdges p (columnFilters p q)) (columnUse p x j)
     columns = one-of-four p (columnFilters p q) x hx edge own (λ z h e n. columns-out p q z h (λ k y g m u e' f' g' u'. n (omega arith)))
 
--- two edge rows by two edge columns
-pub corner-alone : (p q y x : ℕ) → 0 < p → 0 < q → Edge q y → Edge q (y + 1) → Edge p x → Edge p (x + 1) → Does (Rectangle p y (y + 2) x (x + 2)) (filters p q) end
-unfolding filters
-corner-alone p q y x wide tall ey ey' ex ex' = none squares (none rows columns)
-  where
-    in-two : (n z w k : ℕ) → Edge n z → Edge n (z + 1) → k < n - 1 → 4 * k + 2 ≤ w → w < 4 * k + 6 → z ≤ w → w < z + 2 → ⊥
-    in-two n z w k e f h a c d g =
-        by-cases (ℕ-discrete w z) (λ o. edge-off n k z h e (omega (arith, o)) (omega (arith, o))) (λ o. edge-off n k (z + 1) h f (omega (arith, o)) (omega (arith, o)))
+    corners : Does (ColumnOf p x j) (cornerFilters p q) end
+    corners = corners-out p q (omega arith) (λ y z ey ez e f g k. edge-off q j y hj ey e (omega arith))
 
+-- two edge rows by two edge columns
+pub corner-alone : (p q y x : ℕ) → 0 < p → 0 < q → First q y → First p x → Does (Rectangle p y (y + 2) x (x + 2)) (filters p q) (cornerFilterAt (4 * p) (cell p y x))
+unfolding cornerFilterAt cornerFilters filters
+corner-alone p q y x wide tall fy fx = later squares (later rows (later columns (corners fy fx)))
+  where
     squares : Does (CornerOf p y x) (squareFilters p q) end
-    squares = squares-out p q (λ j i z w hj hi e f g m e' f' g' m'. in-two q y z j ey ey' hj e f e' f')
+    squares = squares-out p q (λ j i z w hj hi e f g m e' f' g' m'. edge-off q j z hj (first-edge q y z fy e' f') e f)
 
     rows : Does (CornerOf p y x) (alongEdges q (rowFilters p)) end
-    rows = none-of-four q (rowFilters p) tall (λ z h e. rows-out p q z (λ i w hi m u e' f' g' u'. in-two p x w i ex ex' hi m u g' u'))
+    rows = none-of-four q (rowFilters p) tall (λ z h e. rows-out p q z (λ i w hi m u e' f' g' u'. edge-off p i w hi (first-edge p x w fx g' u') m u))
 
     columns : Does (CornerOf p y x) (alongEdges p (columnFilters p q)) end
-    columns = none-of-four p (columnFilters p q) wide (λ w h e. columns-out p q w h (λ j z hj m u e' f' g' u'. in-two q y z j ey ey' hj m u e' f'))
+    columns = none-of-four p (columnFilters p q) wide (λ w h e. columns-out p q w h (λ j z hj m u e' f' g' u'. edge-off q j z hj (first-edge q y z fy e' f') m u))
+
+    -- at the place in question, and elsewhere
+    here : (z w : ℕ) → y ≡ z → x ≡ w → Does (CornerOf p y x) (cornerFilterAt (4 * p) (cell p z w)) (cornerFilterAt (4 * p) (cell p y x))
+    here z w e f = rw (← e, ← f) (use-inside (CornerOf p y x) FourFilter fourFilter _ (corner-within p y x (omega (arith, first-inside p x wide fx))))
+
+    off : (z w : ℕ) → First p w → ((z' w' : ℕ) → z ≤ z' → z' < z + 2 → w ≤ w' → w' < w + 2 → Out y (y + 2) x (x + 2) z' w') → Does (CornerOf p y x) (cornerFilterAt (4 * p) (cell p z w)) end
+    off z w fw h = corner-out p q z w (first-inside p w wide fw) h
+
+    corners : First q y → First p x → Does (CornerOf p y x) (cornerFilters p q) (cornerFilterAt (4 * p) (cell p y x))
+    corners (inl e) (inl f) =
+        now (here 0 0 e f) (none (off 0 (4 * p - 2) (inr refl) (λ a b c d g h i j k l. omega (arith, f)))
+        (none (off (4 * q - 2) 0 (inl refl) (λ a b c d g h i j k l. omega (arith, e))) (off (4 * q - 2) (4 * p - 2) (inr refl) (λ a b c d g h i j k l. omega (arith, e)))))
+    corners (inl e) (inr f) =
+        later (off 0 0 (inl refl) (λ a b c d g h i j k l. omega (arith, f))) (now (here 0 (4 * p - 2) e f)
+        (none (off (4 * q - 2) 0 (inl refl) (λ a b c d g h i j k l. omega (arith, e))) (off (4 * q - 2) (4 * p - 2) (inr refl) (λ a b c d g h i j k l. omega (arith, e)))))
+    corners (inr e) (inl f) =
+        later (off 0 0 (inl refl) (λ a b c d g h i j k l. omega (arith, e))) (later (off 0 (4 * p - 2) (inr refl) (λ a b c d g h i j k l. omega (arith, e)))
+        (now (here (4 * q - 2) 0 e f) (off (4 * q - 2) (4 * p - 2) (inr refl) (λ a b c d g h i j k l. omega (arith, f)))))
+    corners (inr e) (inr f) =
+        later (off 0 0 (inl refl) (λ a b c d g h i j k l. omega (arith, e))) (later (off 0 (4 * p - 2) (inr refl) (λ a b c d g h i j k l. omega (arith, e)))
+        (later (off (4 * q - 2) 0 (inl refl) (λ a b c d g h i j k l. omega (arith, f))) (here (4 * q - 2) (4 * p - 2) e f)))

@@ -1,4 +1,4 @@
--- The unfiltered samples number by number: inside the places of one use they are that use undone, at a corner the samples themselves.
+-- The unfiltered samples number by number: inside the places of one use they are that use undone.
 use Prim.Native.Nat.{ℕ, zero, suc, _+_, _-_, _*_, _/_, _%_, _≤_, _<_}
 use mathlib.Core.Path.{_≡_, refl, sym, _∙_, ap}
 use mathlib.Core.Logic.{inl, by-cases}
@@ -16,14 +16,14 @@ use Rattle.lifting.proofs.Reverse.{get-put, length-put}
 use Rattle.lifting.proofs.Between.{All}
 use Rattle.lifting.proofs.Locality.{agree-refl, get-same}
 use Rattle.figures.specs.Figures.{squareFilter, fourFilter}
-use Rattle.picture.specs.Level.{cell, strip, square, squareFilterAt, fourFilterAt, filters}
+use Rattle.picture.specs.Level.{cell, strip, square, corner, squareFilterAt, fourFilterAt, cornerFilterAt, filters}
 use Rattle.picture.proofs.Table.{at-table}
 use Rattle.picture.proofs.Squares.{get-sixteen, square-is}
-use Rattle.picture.proofs.Levels.{square-inside, row-strip-inside, column-strip-inside}
+use Rattle.picture.proofs.Levels.{square-inside, row-strip-inside, column-strip-inside, corner-inside}
 use Rattle.picture.proofs.Alone.{Does}
 use Rattle.forward_kernel.proofs.Stores.{below-four}
-use Rattle.forward_two_edges.specs.Unfiltered.{Rectangle, Edge}
-use Rattle.forward_two_edges.proofs.Alone.{in-rectangle, square-within, row-within, column-within, square-alone, row-alone, column-alone, corner-alone}
+use Rattle.forward_two_edges.specs.Unfiltered.{Rectangle, Edge, First}
+use Rattle.forward_two_edges.proofs.Alone.{first-inside, square-within, row-within, column-within, corner-within, square-alone, row-alone, column-alone, corner-alone}
 
 -- the places of a grid
 pub cell-low : (p q y x : ℕ) → y < 4 * q → x < 4 * p → cell p y x < 16 * (p * q)
@@ -70,10 +70,18 @@ module _ (p q : ℕ) (s : List ℤ) (len : length s ≡ 16 * (p * q)) where
       (column-within p (4 * j + 2) x hx)
       (column-strip-inside p q (4 * j + 2) x (omega arith) hx) (length-four (get (strip (4 * p) (cell p (4 * j + 2) x)) s)) len
 
+  corner-numbers : (y x : ℕ) → 0 < p → 0 < q → First q y → First p x → get (corner (4 * p) (cell p y x)) (undo (filters p q) s) ≡ undo fourFilter (get (corner (4 * p) (cell p y x)) s)
+  unfolding cornerFilterAt get
+  corner-numbers y x wide tall fy fx =
+      let hy = first-inside q y tall fy in
+      let hx = first-inside p x wide fx in
+      alone-numbers _ fourFilter (corner (4 * p) (cell p y x)) s (corner-alone p q y x wide tall fy fx) (corner-within p y x (omega arith))
+      (corner-inside p q y x (omega arith) (omega arith)) (length-four (get (corner (4 * p) (cell p y x)) s)) len
+
 -- ---- number by number
 
 -- what equal fours say of each number
-at-four : (f : ℕ → ℕ) (v xs : List ℤ) {a b c d : ℕ} → a ≡ f 0 → b ≡ f 1 → c ≡ f 2 → d ≡ f 3 → get (a ∷ b ∷ c ∷ d ∷ []) v ≡ xs → (k : ℕ) → k < 4 → at v (f k) ≡ at xs k
+pub at-four : (f : ℕ → ℕ) (v xs : List ℤ) {a b c d : ℕ} → a ≡ f 0 → b ≡ f 1 → c ≡ f 2 → d ≡ f 3 → get (a ∷ b ∷ c ∷ d ∷ []) v ≡ xs → (k : ℕ) → k < 4 → at v (f k) ≡ at xs k
 unfolding get
 at-four f v xs x y z w e =
     below-four (λ k. at v (f k) ≡ at xs k) (rw x at (ap (λ l. at l 0) e)) (rw y at (ap (λ l. at l 1) e)) (rw z at (ap (λ l. at l 2) e)) (rw w at (ap (λ l. at l 3) e))
@@ -101,12 +109,14 @@ module _ (p q : ℕ) (s : List ℤ) (len : length s ≡ 16 * (p * q)) where
       down n e = e ∙ rw (add-mul (4 * j + 2) n (4 * p)) (omega arith)
 
   -- rows y and y + 1, columns x and x + 1
-  pub corner-at : (y x a b : ℕ) → 0 < p → 0 < q → Edge q y → Edge q (y + 1) → Edge p x → Edge p (x + 1) → a < 2 → b < 2 → x + b < 4 * p
-      → at (undo (filters p q) s) (cell p (y + a) (x + b)) ≡ at s (cell p (y + a) (x + b))
-  unfolding undoBy
-  corner-at y x a b wide tall ey ey' ex ex' ha hb h =
-      corner-alone p q y x wide tall ey ey' ex ex' .undoes s s agree-refl .same (cell p (y + a) (x + b)) (in-rectangle p y (y + 2) x (x + 2) (y + a) (x + b) h (omega arith) (omega arith) (omega arith) (omega arith))
+  pub corner-at : (y x k : ℕ) → 0 < p → 0 < q → First q y → First p x → k < 4
+      → at (undo (filters p q) s) (cell p (y + k / 2) (x + k % 2)) ≡ at (undo fourFilter (get (corner (4 * p) (cell p y x)) s)) k
+  corner-at y x k wide tall fy fx h =
+      at-four (λ n. cell p (y + n / 2) (x + n % 2)) (undo (filters p q) s) _ (omega arith) (omega arith) (below 0 (omega arith)) (below 1 (omega arith)) (corner-numbers p q s len y x wide tall fy fx) k h
+    where
+      below : (n : ℕ) {a : ℕ} → a ≡ cell p y x + 4 * p + n → a ≡ cell p (y + 1) (x + n)
+      below n e = e ∙ rw (add-mul y 1 (4 * p)) (omega arith)
 
 pub length-unfiltered : (p q : ℕ) (s : List ℤ) → 0 < p → 0 < q → length (undo (filters p q) s) ≡ length s
-unfolding undoBy
-length-unfiltered p q s wide tall = corner-alone p q 0 0 wide tall (inl (omega arith)) (inl (omega arith)) (inl (omega arith)) (inl (omega arith)) .undoes s s agree-refl .len
+unfolding undoBy cornerFilterAt
+length-unfiltered p q s wide tall = corner-alone p q 0 0 wide tall (inl refl) (inl refl) .undoes s s agree-refl .len ∙ length-put _ _ s

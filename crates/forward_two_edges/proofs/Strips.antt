@@ -10,17 +10,20 @@ use lib.ListN.{length, set, length-set}
 use lib.Seq.{getD-set-same, getD-set-other}
 use lib.IntN.{ℤ, pos}
 use Rattle.lifting.specs.Program.{at, get, put, undo}
+use Rattle.lifting.proofs.Reverse.{get-put, length-put}
+use Rattle.lifting.proofs.Locality.{agree-refl, put-keeps}
 use Rattle.figures.specs.Block.{four}
 use Rattle.figures.specs.Figures.{fourFilter}
-use Rattle.picture.specs.Level.{cell, strip as line, filters}
+use Rattle.picture.specs.Level.{cell, strip as line, corner, filters}
 use Rattle.picture.specs.Sizes.{macroblocks, Sized}
 use Rattle.picture.specs.declared.size.Size.{Size}
+use Rattle.picture.proofs.Levels.{corner-places}
 use Rattle.picture.proofs.CheckLaws.{few-macroblocks}
 use Rattle.grid.proofs.Rows.{row-inside}
 use Rattle.forward_kernel.proofs.Stores.{below-four}
-use Rattle.forward_two_edges.specs.Unfiltered.{unfiltered, Edge}
+use Rattle.forward_two_edges.specs.Unfiltered.{unfiltered, Edge, First}
 use Rattle.forward_two_edges.specs.Strip.{Holds, Kept, Given, Rows, Spread, unfilteredAt}
-use Rattle.forward_two_edges.proofs.Numbers.{cell-low, row-at, column-at, corner-at}
+use Rattle.forward_two_edges.proofs.Numbers.{cell-low, at-four, row-at, column-at, corner-at}
 
 -- ---- numbers along a line
 
@@ -190,55 +193,45 @@ module _ (size : Size) (samples : List ℤ) (wide : 0 < size .width .0) (tall : 
     record { len = d .len; same = λ y z h o. d .others (72 * y + z) (λ k l q. o (omega (arith, q)) (omega (arith, q)) (omega (arith, q)) (omega (arith, q))) },
   )
 
-  -- one number at a corner
-  pub corner-number : (y x : ℕ) → Edge (4 * H) y → y < 16 * H → Edge (4 * W) x → x < 16 * W → at (unfiltered size samples) (cell (4 * W) y x) ≡ at samples (cell (4 * W) y x)
+  -- a corner in rows y and y + 1 and columns x and x + 1
+  pub corner-filled : (y x a i : ℕ) (u v : List ℤ) {old new : List ℤ} → x ≤ 70 → 72 * y + x + 73 < length old → First (4 * H) (16 * r + y) → First (4 * W) (16 * c + x)
+      → a ≡ (16 * r + y) * (16 * W) + 16 * c + x → i ≡ 72 * y + x
+      → four u ≡ get (corner (16 * W) a) samples → four v ≡ undo fourFilter (four u) → new ≡ put (corner 72 i) (four v) old
+      → Holds size samples r c y (y + 2) x (x + 2) new × Kept y (y + 2) x (x + 2) old new
   unfolding unfiltered
-  corner-number y x ey hy ex hx = which ey ex
+  corner-filled y x a i u v {old} {new} few room' fy fx e f read made stored = (
+    record {
+      there = λ z w g h k l m n.
+          let j = 2 * (z - y) + (w - x) in
+          let below : y + j / 2 ≡ z = omega arith in
+          let beside : x + j % 2 ≡ w = omega arith in
+          ap₂ (λ (o q : ℕ). at new (72 * o + q)) (sym below) (sym beside)
+          ∙ own j (omega arith)
+          ∙ ap₂ (λ (o b : ℕ). at (undo fourFilter (get (corner o b) samples)) j) (omega arith) (omega (arith, e))
+          ∙ sym (corner-at (4 * W) (4 * H) samples room (16 * r + y) (16 * c + x) j (omega arith) (omega arith) fy fx (omega arith))
+          ∙ ap₂ (λ (o q : ℕ). at (undo (filters (4 * W) (4 * H)) samples) (cell (4 * W) o q)) (omega (arith, below)) (omega (arith, beside));
+    },
+    record {
+      len = ap length stored ∙ length-put _ _ old;
+      same = λ z w h o.
+          ap (λ l. at l (72 * z + w)) stored
+          ∙ put-keeps (λ (k : ℕ). k ≡ 72 * z + w) (corner 72 i) (four v) (
+            λ q. away z w o 0 0 (omega arith) (omega arith) h (omega (arith, q)),
+            (
+              λ q. away z w o 0 1 (omega arith) (omega arith) h (omega (arith, q)),
+              (λ q. away z w o 1 0 (omega arith) (omega arith) h (omega (arith, q)), (λ q. away z w o 1 1 (omega arith) (omega arith) h (omega (arith, q)), tt)),
+            ),
+          ) agree-refl .same (72 * z + w) refl;
+    },
+  )
     where
-      corner : (b a : ℕ) → Edge (4 * H) b → Edge (4 * H) (b + 1) → Edge (4 * W) a → Edge (4 * W) (a + 1) → b ≤ y → y < b + 2 → a ≤ x → x < a + 2
-          → at (undo (filters (4 * W) (4 * H)) samples) (cell (4 * W) y x) ≡ at samples (cell (4 * W) y x)
-      corner b a eb eb' ea ea' h k l m =
-          ap₂ (λ (i j : ℕ). at (undo (filters (4 * W) (4 * H)) samples) (cell (4 * W) i j)) (omega arith) (omega arith)
-          ∙ corner-at (4 * W) (4 * H) samples room b a (y - b) (x - a) (omega arith) (omega arith) eb eb' ea ea' (omega arith) (omega arith) (omega arith)
-          ∙ ap₂ (λ (i j : ℕ). at samples (cell (4 * W) i j)) (omega arith) (omega arith)
+      own : (k : ℕ) → k < 4 → at new (72 * (y + k / 2) + (x + k % 2)) ≡ at (undo fourFilter (get (corner (16 * W) a) samples)) k
+      own k h =
+          at-four (λ n. 72 * (y + n / 2) + (x + n % 2)) new (undo fourFilter (get (corner (16 * W) a) samples)) {a = i} {b = i + 1} {c = i + 72} {d = i + 72 + 1} (omega arith) (omega arith) (omega arith) (omega arith)
+          (ap (get (corner 72 i)) stored ∙ get-put (corner 72 i) (four v) old (corner-places 72 i (length old) (omega arith) (omega arith)) refl refl ∙ made ∙ ap (undo fourFilter) read) k h
 
-      which : Edge (4 * H) y → Edge (4 * W) x → at (undo (filters (4 * W) (4 * H)) samples) (cell (4 * W) y x) ≡ at samples (cell (4 * W) y x)
-      which (inl e) (inl f) = corner 0 0 (inl (omega arith)) (inl (omega arith)) (inl (omega arith)) (inl (omega arith)) (omega arith) (omega (arith, e)) (omega arith) (omega (arith, f))
-      which (inl e) (inr f) = corner 0 (16 * W - 2) (inl (omega arith)) (inl (omega arith)) (inr (omega arith)) (inr (omega arith)) (omega arith) (omega (arith, e)) (omega (arith, f)) (omega (arith, f))
-      which (inr e) (inl f) = corner (16 * H - 2) 0 (inr (omega arith)) (inr (omega arith)) (inl (omega arith)) (inl (omega arith)) (omega (arith, e)) (omega (arith, e)) (omega arith) (omega (arith, f))
-      which (inr e) (inr f) = corner (16 * H - 2) (16 * W - 2) (inr (omega arith)) (inr (omega arith)) (inr (omega arith)) (inr (omega arith)) (omega (arith, e)) (omega (arith, e)) (omega (arith, f)) (omega (arith, f))
-
-  -- two numbers of row y at a corner
-  pub corner-filled : (y x a i : ℕ) (old : List ℤ) → x ≤ 70 → 72 * y + x + 1 < length old → Edge (4 * H) (16 * r + y) → 16 * r + y < 16 * H → Edge (4 * W) (16 * c + x) → Edge (4 * W) (16 * c + (x + 1)) → 16 * c + x + 1 < 16 * W
-      → a ≡ (16 * r + y) * (16 * W) + 16 * c + x → i ≡ 72 * y + x
-      → let new = set (set old i (at samples a)) (i + 1) (at samples (a + 1)) in Holds size samples r c y (y + 1) x (x + 2) new × Kept y (y + 1) x (x + 2) old new
-  corner-filled y x a i old few inside ey hy ex ex' hx e f =
-      let one = set old i (at samples a) in
-      let new = set one (i + 1) (at samples (a + 1)) in
-      let left : at new (72 * y + x) ≡ at samples a = ap (at new) (sym f) ∙ getD-set-other one (i + 1) i (at samples (a + 1)) (pos 0) (λ q. absurd (omega (arith, q))) ∙ getD-set-same old i (at samples a) (pos 0) (omega arith) in
-      let right : at new (72 * y + (x + 1)) ≡ at samples (a + 1) = ap (at new) (omega arith) ∙ getD-set-same one (i + 1) (at samples (a + 1)) (pos 0) (omega (arith, length-set old i (at samples a))) in (
-        record {
-          there = λ z w g h k l u v.
-              let same : z ≡ y = omega arith in
-              by-cases (ℕ-discrete w x)
-              (λ q. ap₂ (λ (m n : ℕ). at new (72 * m + n)) same q ∙ left ∙ ap (at samples) (omega arith) ∙ sym (corner-number (16 * r + y) (16 * c + x) ey hy ex (omega arith))
-              ∙ ap₂ (λ (m n : ℕ). at (unfiltered size samples) (cell (4 * W) (16 * r + m) (16 * c + n))) (sym same) (sym q))
-              (λ o. let q : w ≡ x + 1 = omega (arith, o) in
-              ap₂ (λ (m n : ℕ). at new (72 * m + n)) same q ∙ right ∙ ap (at samples) (omega arith) ∙ sym (corner-number (16 * r + y) (16 * c + (x + 1)) ey hy ex' (omega arith))
-              ∙ ap₂ (λ (m n : ℕ). at (unfiltered size samples) (cell (4 * W) (16 * r + m) (16 * c + n))) (sym same) (sym q));
-        },
-        record {
-          len = length-set one (i + 1) (at samples (a + 1)) ∙ length-set old i (at samples a);
-          same = λ z w h o.
-              getD-set-other one (i + 1) (72 * z + w) (at samples (a + 1)) (pos 0) (λ q. o (omega (arith, q)) (omega (arith, q)) (omega (arith, q)) (omega (arith, q)))
-              ∙ getD-set-other old i (72 * z + w) (at samples a) (pos 0) (λ q. o (omega (arith, q)) (omega (arith, q)) (omega (arith, q)) (omega (arith, q)));
-        },
-      )
-
-  pub corner-stored : (y x a i : ℕ) (old : List ℤ) {u v : ℤ} → u ≡ at samples a → v ≡ at samples (a + 1) → x ≤ 70 → 72 * y + x + 1 < length old → Edge (4 * H) (16 * r + y) → 16 * r + y < 16 * H → Edge (4 * W) (16 * c + x) → Edge (4 * W) (16 * c + (x + 1)) → 16 * c + x + 1 < 16 * W
-      → a ≡ (16 * r + y) * (16 * W) + 16 * c + x → i ≡ 72 * y + x
-      → let new = set (set old i u) (i + 1) v in Holds size samples r c y (y + 1) x (x + 2) new × Kept y (y + 1) x (x + 2) old new
-  corner-stored y x a i old p q few inside ey hy ex ex' hx e f = rw (p, q) (corner-filled y x a i old few inside ey hy ex ex' hx e f)
+      away : (z w : ℕ) → (y ≤ z → z < y + 2 → x ≤ w → w < x + 2 → ⊥) → (m n : ℕ) → m < 2 → n < 2 → w < 72 → 72 * (y + m) + (x + n) ≡ 72 * z + w → ⊥
+      away z w o m n hm hn h q = o (omega arith) (omega arith) (omega arith) (omega arith)
 
 -- ---- a row of macroblocks: which of its rows lie at an edge
 
@@ -277,6 +270,21 @@ module _ {size : Size} {r first down : ℕ} (low : r < size .height .0) (rows : 
     where
       which : ((down ≡ 3) × (r + 1 ≡ size .height .0)) ⊎ ((down ≡ 4) × (r + 1 < size .height .0)) → Edge (4 * size .height .0) (16 * r + y) × (16 * r + y < 16 * size .height .0)
       which (inl e) = (inr (omega (arith, e)), omega (arith, e))
+      which (inr e) = absurd (omega (arith, e))
+
+  -- the two rows above the windows, where there are any, and the two below them
+  pub corner-above : first < 2 → (2 ≡ first + 2) × First (4 * size .height .0) (16 * r + first)
+  corner-above h = which (rows .top)
+    where
+      which : ((first ≡ 0) × (r ≡ 0)) ⊎ ((first ≡ 2) × (0 < r)) → (2 ≡ first + 2) × First (4 * size .height .0) (16 * r + first)
+      which (inl e) = (omega (arith, e), inl (omega (arith, e)))
+      which (inr e) = absurd (omega (arith, e))
+
+  pub corner-below : 4 * down + 2 < 16 → (16 ≡ 4 * down + 2 + 2) × First (4 * size .height .0) (16 * r + (4 * down + 2))
+  corner-below h = which (rows .bottom)
+    where
+      which : ((down ≡ 3) × (r + 1 ≡ size .height .0)) ⊎ ((down ≡ 4) × (r + 1 < size .height .0)) → (16 ≡ 4 * down + 2 + 2) × First (4 * size .height .0) (16 * r + (4 * down + 2))
+      which (inl e) = (omega (arith, e), inr (omega (arith, e)))
       which (inr e) = absurd (omega (arith, e))
 
   -- a row that is neither above the windows' end nor above row 16 is no row of the picture

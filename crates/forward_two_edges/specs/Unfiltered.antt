@@ -1,5 +1,6 @@
 -- The samples of a picture with the filters of level two undone, and rectangles of its grid.
-use Prim.Native.Nat.{ℕ, _+_, _*_, _/_, _%_, _≤_, _<_}
+use Prim.Native.Nat.{ℕ, _+_, _-_, _*_, _/_, _%_, _≤_, _<_}
+use mathlib.Core.Path.{_≡_}
 use mathlib.Core.List.{List}
 use mathlib.Core.Logic.{_⊎_}
 use lib.IntN.{ℤ}
@@ -20,3 +21,7 @@ pub record Rectangle (p top bottom left right i : ℕ) : Type 0 where
 -- the two rows, or columns, at an edge of n squares
 abbrev pub Edge : ℕ → ℕ → Type 0
 Edge n y = (y < 2) ⊎ (4 * n ≤ y + 2)
+
+-- the first of the two
+abbrev pub First : ℕ → ℕ → Type 0
+First n y = (y ≡ 0) ⊎ (y ≡ 4 * n - 2)

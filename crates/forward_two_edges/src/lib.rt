@@ -1,13 +1,15 @@
-// The edges of a picture in the strip: the filters of four along them undone from the samples, and the corners, which no filter touches.
+// The edges of a picture in the strip: the filters of four along them, and at the corners, undone from the samples.
 ghost use mathlib.Core.Path.{_≡_};
 ghost use Prim.Native.Nat.{ℕ, _+_, _*_, _/_, _%_, _<_, _≤_};
 ghost use lib.ListN.{length};
 ghost use Rattle.lifting.specs.Program.{at as number};
 ghost use Rattle.picture.specs.Level.{cell};
-ghost use Rattle.forward_two_edges.specs.Unfiltered.{Edge};
+ghost use Rattle.forward_two_edges.specs.Unfiltered.{Edge, First};
 ghost use Rattle.forward_two_edges.specs.Strip.{Holds, Kept, Given, Rows, Spread, unfilteredAt};
 use four_filter::unfiltered;
+use grid::get_corner;
 use grid::get_four;
+use grid::put_corner;
 use grid::put_four;
 use picture::size::Size;
 
@@ -71,32 +73,8 @@ pub fn edge_rows(
     }
 }
 
-// Columns x and x + 1 of row y, all of which lie at an edge; `at` is the place of the first.
-fn corner_row(
-    size: Size,
-    r: usize,
-    c: usize,
-    samples: &[i32],
-    at: usize,
-    y: usize,
-    strip: &mut [i32],
-    x: usize,
-)
-    requires { ⌜ Given size r c (now samples) (now strip) ⌝ }
-    requires { ⌜ at ≡ cell (4 * size .width .0) (16 * r + y) (16 * c + x) ⌝ }
-    requires { ⌜ (y < 18) × (x ≤ 70) × (16 * c + x + 1 < 16 * size .width .0) ⌝ }
-    requires { ⌜ Edge (4 * size .width .0) (16 * c + x) × Edge (4 * size .width .0) (16 * c + (x + 1)) ⌝ }
-    requires { ⌜ Edge (4 * size .height .0) (16 * r + y) × (16 * r + y < 16 * size .height .0) ⌝ }
-    ensures { λ u. ⌜ Holds size (now (samples .entry)) r c y (y + 1) x (x + 2) (now (strip .exit)) ⌝ }
-    ensures { λ u. ⌜ Kept y (y + 1) x (x + 2) (now (strip .entry)) (now (strip .exit)) ⌝ }
-{
-    let to = 72 * y + x;
-    strip[to] = samples[at];
-    strip[to + 1] = samples[at + 1];
-}
-
-// Columns x and x + 1 of each row from `top`, where the first is at place `at`, to `bottom`; all of them lie at an edge.
-fn corners(
+// Columns x and x + 1 of the rows from `top`, which begins there at place `at`, to `bottom`: a corner of the picture, unfiltered, or no rows at all.
+fn corner(
     size: Size,
     r: usize,
     c: usize,
@@ -109,17 +87,16 @@ fn corners(
 )
     requires { ⌜ Given size r c (now samples) (now strip) ⌝ }
     requires { ⌜ (top < bottom → at ≡ cell (4 * size .width .0) (16 * r + top) (16 * c + x)) ⌝ }
-    requires { ⌜ (bottom ≤ 18) × (x ≤ 70) × (16 * c + x + 1 < 16 * size .width .0) ⌝ }
-    requires { ⌜ Edge (4 * size .width .0) (16 * c + x) × Edge (4 * size .width .0) (16 * c + (x + 1)) ⌝ }
-    requires { ⌜ ((y : ℕ) → top ≤ y → y < bottom → Edge (4 * size .height .0) (16 * r + y) × (16 * r + y < 16 * size .height .0)) ⌝ }
+    requires { ⌜ (bottom ≤ 16) × (x ≤ 70) × First (4 * size .width .0) (16 * c + x) ⌝ }
+    requires { ⌜ (top < bottom → (bottom ≡ top + 2) × First (4 * size .height .0) (16 * r + top)) ⌝ }
     ensures { λ u. ⌜ Holds size (now (samples .entry)) r c top bottom x (x + 2) (now (strip .exit)) ⌝ }
     ensures { λ u. ⌜ Kept top bottom x (x + 2) (now (strip .entry)) (now (strip .exit)) ⌝ }
 {
-    let across = size.width.0 as usize;
-    let mut row = at;
-    for y in top..bottom {
-        corner_row(size, r, c, samples, row, y, strip, x);
-        row += 16 * across;
+    if top < bottom {
+        let across = size.width.0 as usize;
+        let filtered = get_corner(samples, 16 * across, at);
+        let undone = unfiltered(filtered);
+        put_corner(strip, 72, 72 * top + x, undone);
     }
 }
 
@@ -160,8 +137,7 @@ pub fn edge_columns(
     requires { ⌜ Given size r c (now samples) (now strip) ⌝ }
     requires { ⌜ at ≡ cell (4 * size .width .0) (16 * r) (16 * c) ⌝ }
     requires { ⌜ Rows size r first down ⌝ }
-    requires { ⌜ (x ≤ 70) × (16 * c + x + 1 < 16 * size .width .0) ⌝ }
-    requires { ⌜ Edge (4 * size .width .0) (16 * c + x) × Edge (4 * size .width .0) (16 * c + (x + 1)) ⌝ }
+    requires { ⌜ (x ≤ 70) × First (4 * size .width .0) (16 * c + x) ⌝ }
     ensures { λ u. ⌜ Holds size (now (samples .entry)) r c first 18 x (x + 2) (now (strip .exit)) ⌝ }
     ensures { λ u. ⌜ Kept first 18 x (x + 2) (now (strip .entry)) (now (strip .exit)) ⌝ }
 {
@@ -169,8 +145,8 @@ pub fn edge_columns(
     let w = 16 * across;
     let top = at + x;
     let second = top + w + w;
-    corners(size, r, c, samples, top, first, 2, strip, x);
+    corner(size, r, c, samples, top, first, 2, strip, x);
     let last = column_fours(samples, w, second, down, strip, 144 + x);
     column_fours(samples, w, second + 1, down, strip, 145 + x);
-    corners(size, r, c, samples, last, 4 * down + 2, 16, strip, x);
+    corner(size, r, c, samples, last, 4 * down + 2, 16, strip, x);
 }

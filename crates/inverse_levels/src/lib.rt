@@ -5,11 +5,13 @@ ghost use mathlib.Core.Path.{_≡_};
 ghost use Prim.Native.Nat.{_+_, _-_, _*_, _<_, _≤_};
 ghost use lib.ListN.{length};
 ghost use Rattle.lifting.specs.Program.{run, each, _then_};
-ghost use Rattle.picture.specs.Level.{fourFilterAt, rowFilters, columnFilters, alongEdges, edgeFilters};
+ghost use Rattle.picture.specs.Level.{fourFilterAt, cornerFilterAt, rowFilters, columnFilters, alongEdges, cornerFilters, edgeFilters};
 ghost use Rattle.inverse_levels.specs.Stages.{windowRow, windowsIf, edgesIf};
 use crate::windows::four_windows;
 use four_filter::four_filter;
+use grid::get_corner;
 use grid::get_four;
+use grid::put_corner;
 use grid::put_four;
 
 // ---- one use
@@ -29,6 +31,15 @@ fn four_filter_pair(grid: &mut [i32], step: usize, at: usize)
 {
     four_filter_at(grid, step, at);
     four_filter_at(grid, step, at + 1);
+}
+
+fn corner_filter_at(grid: &mut [i32], w: usize, at: usize)
+    requires { ⌜ at + w + 1 < length (now grid) ⌝ }
+    ensures { λ r. ⌜ now (grid .exit) ≡ run (cornerFilterAt w at) (now (grid .entry)) ⌝ }
+{
+    let v = get_corner(grid, w, at);
+    let f = four_filter(v[0], v[1], v[2], v[3]);
+    put_corner(grid, w, at, [f.a, f.b, f.c, f.d]);
 }
 
 // ---- n uses in a line
@@ -112,6 +123,20 @@ fn edge_columns(grid: &mut [i32], p: usize, q: usize)
     column_pair(grid, p, q, 4 * p - 2);
 }
 
+fn corners(grid: &mut [i32], p: usize, q: usize)
+    requires { ⌜ 16 * (p * q) ≤ length (now grid) ⌝ }
+    requires { ⌜ (0 < p) × (p ≤ 2100) × (0 < q) × (q ≤ 1652) ⌝ }
+    ensures { λ r. ⌜ now (grid .exit) ≡ run (cornerFilters p q) (now (grid .entry)) ⌝ }
+{
+    let w = 4 * p;
+    let right = w - 2;
+    let bottom = (4 * q - 2) * w;
+    corner_filter_at(grid, w, 0);
+    corner_filter_at(grid, w, right);
+    corner_filter_at(grid, w, bottom);
+    corner_filter_at(grid, w, bottom + right);
+}
+
 fn edges(grid: &mut [i32], p: usize, q: usize)
     requires { ⌜ 16 * (p * q) ≤ length (now grid) ⌝ }
     requires { ⌜ (0 < p) × (p ≤ 2100) × (0 < q) × (q ≤ 1652) ⌝ }
@@ -119,6 +144,7 @@ fn edges(grid: &mut [i32], p: usize, q: usize)
 {
     edge_rows(grid, p, q);
     edge_columns(grid, p, q);
+    corners(grid, p, q);
 }
 
 // ---- the same where the level is filtered

@@ -7,7 +7,7 @@ use native.Mathlib.Omega.{arith}
 use native.Mathlib.Nat.{add-mul}
 use lib.Arith.{digits-div, digits-mod}
 use Rattle.lifting.proofs.Between.{All, all-map}
-use Rattle.picture.specs.Level.{cell, strip, square}
+use Rattle.picture.specs.Level.{cell, strip, square, corner}
 
 -- the cell of row (or column) r
 abbrev pub zone : ℕ → ℕ → ℕ
@@ -33,7 +33,7 @@ all-square P w i h k l m =
     let fourth = strip 1 (i + w + w + w) in
     all-append P (strip 1 i) (strip 1 (i + w) ++ third ++ fourth) h (all-append P (strip 1 (i + w)) (third ++ fourth) k (all-append P third fourth l m))
 
--- ---- places by their row and column: Q of both, at four places along a row, four down a column, and the places of a square
+-- ---- places by their row and column: Q of both, at four places along a row, four down a column, and the places of a corner and of a square
 
 abbrev pub row : ℕ → ℕ → ℕ
 row p i = i / (4 * p)
@@ -61,6 +61,11 @@ module _ (p : ℕ) (Q : ℕ → ℕ → Type 0) where
       let e2 = down (r + 1) c (i + 4 * p) e1 in
       let e3 = down (r + 1 + 1) c (i + 4 * p + 4 * p) e2 in
       all-strip On (4 * p) i (on r c e h k) (on (r + 1) c e1 h l) (on (r + 1 + 1) c e2 h m) (on (r + 1 + 1 + 1) c e3 h n)
+
+  pub on-corner : (r c i : ℕ) → i ≡ cell p r c → c + 1 < 4 * p → Q r c → Q r (c + 1) → Q (r + 1) c → Q (r + 1) (c + 1) → All On (corner (4 * p) i)
+  on-corner r c i e h k l m n =
+      let e1 = down r c i e in
+      (on r c e (omega arith) k, (on r (c + 1) (omega arith) h l, (on (r + 1) c e1 (omega arith) m, (on (r + 1) (c + 1) (omega arith) h n, tt))))
 
   pub on-square : (r c i : ℕ) → i ≡ cell p r c → c + 3 < 4 * p → ((j k : ℕ) → r ≤ j → j < r + 4 → c ≤ k → k < c + 4 → Q j k) → All On (square (4 * p) i)
   on-square r c i e h q =
@@ -96,7 +101,10 @@ module _ (d p a b : ℕ) where
   pub strip-down : (r c i : ℕ) → i ≡ cell p r c → c < 4 * p → zone d r ≡ a → zone d (r + 3) ≡ a → zone d c ≡ b → All (InCell d p a b) (strip (4 * p) i)
   strip-down r c i e h f g k = all-map (strip (4 * p) i) here (on-down p Here r c i e h (f, k) (omega arith, k) (omega arith, k) (omega arith, k))
 
-  -- a square of which the first and the last place lie in one cell
+  -- a corner and a square of which the first and the last place lie in one cell
+  pub corner-in-cell : (r c i : ℕ) → i ≡ cell p r c → c + 1 < 4 * p → zone d r ≡ a → zone d (r + 1) ≡ a → zone d c ≡ b → zone d (c + 1) ≡ b → All (InCell d p a b) (corner (4 * p) i)
+  corner-in-cell r c i e h f g k l = all-map (corner (4 * p) i) here (on-corner p Here r c i e h (f, k) (f, l) (g, k) (g, l))
+
   pub square-in-cell : (r c i : ℕ) → i ≡ cell p r c → c + 3 < 4 * p → zone d r ≡ a → zone d (r + 3) ≡ a → zone d c ≡ b → zone d (c + 3) ≡ b → All (InCell d p a b) (square (4 * p) i)
   square-in-cell r c i e h f g k l = all-map (square (4 * p) i) here (on-square p Here r c i e h (λ j m s t u w. (omega arith, omega arith)))
 
@@ -114,3 +122,7 @@ row-filter-in-cell p r i h = strip-across 2 p (zone 2 r) (i + 1) r (4 * i + 2) _
 
 pub column-filter-in-cell : (p c j : ℕ) → c < 4 * p → All (InCell 2 p (j + 1) (zone 2 c)) (strip (4 * p) (cell p (4 * j + 2) c))
 column-filter-in-cell p c j h = strip-down 2 p (j + 1) (zone 2 c) (4 * j + 2) c _ refl h (omega arith) (omega arith) refl
+
+-- rows r and r + 1 in one cell of the filters, and columns c and c + 1
+pub corner-filter-in-cell : (p r c : ℕ) → c + 1 < 4 * p → zone 2 (r + 1) ≡ zone 2 r → zone 2 (c + 1) ≡ zone 2 c → All (InCell 2 p (zone 2 r) (zone 2 c)) (corner (4 * p) (cell p r c))
+corner-filter-in-cell p r c h e f = corner-in-cell 2 p (zone 2 r) (zone 2 c) r c _ refl h refl e refl f

@@ -5,14 +5,15 @@ use mathlib.Core.Bool.{Bool, true, false, not}
 use mathlib.Core.List.{List, [], _∷_, _++_}
 use native.Mathlib.Omega.{arith}
 use native.Mathlib.Nat.{mul-le-mul-right}
+use lib.ListN.{length}
 use lib.Dec.{T, ltb, eqb, lt→ltb, eqb→eq}
 use mir.Facts.{yes-and, not-T}
-use Rattle.lifting.specs.Program.{Program, end}
+use Rattle.lifting.specs.Program.{Program, end, apply, FourFilter}
 use Rattle.lifting.specs.Valid.{notIn, places, valid}
 use Rattle.lifting.proofs.Uses.{valid-then}
 use Rattle.figures.specs.Figures.{core, squareFilter, fourFilter}
 use Rattle.figures.proofs.Figures.{core-valid, square-filter-valid, four-filter-valid}
-use Rattle.picture.specs.Level.{cell, strip, square, coreAt, squareFilterAt, fourFilterAt, cores, filters, level}
+use Rattle.picture.specs.Level.{cell, strip, square, corner, coreAt, squareFilterAt, fourFilterAt, cornerFilterAt, cores, filters, level}
 use Rattle.picture.proofs.Stages.{OfCores, OfFilters, of-cores, of-filters}
 
 -- ---- places that rise, the first not below m and the last below n
@@ -50,6 +51,9 @@ strip-rising step at n h l = (omega arith, (omega arith, (omega arith, (omega ar
 strip-places : (step at n : ℕ) → 0 < step → at + step + step + step < n → T (places n (strip step at))
 strip-places step at n h l = rising-places at n (strip step at) (strip-rising step at n h l)
 
+pub corner-places : (w at n : ℕ) → 2 ≤ w → at + w + 1 < n → T (places n (corner w at))
+corner-places w at n h l = rising-places at n (corner w at) (omega arith, (omega arith, (omega arith, (omega arith, omega arith))))
+
 -- a row of a square ends before the next begins
 row-rising : (at next n : ℕ) (ps : List ℕ) → at + 4 ≤ next → Rising next n ps → Rising at n (strip 1 at ++ ps)
 row-rising at next n ps h l = rising-append at next n (strip 1 at) ps (strip-rising 1 at next (omega arith) (omega arith)) l
@@ -78,6 +82,9 @@ module _ (p q r c : ℕ) where
   pub column-strip-inside : r + 4 ≤ 4 * q → c < 4 * p → T (places (16 * (p * q)) (strip (4 * p) (cell p r c)))
   column-strip-inside h l = strip-places (4 * p) (cell p r c) (16 * (p * q)) (omega arith) (omega (arith, mul-le-mul-right (4 * p) h))
 
+  pub corner-inside : r + 2 ≤ 4 * q → c + 2 ≤ 4 * p → T (places (16 * (p * q)) (corner (4 * p) (cell p r c)))
+  corner-inside h l = corner-places (4 * p) (cell p r c) (16 * (p * q)) (omega arith) (omega (arith, mul-le-mul-right (4 * p) h))
+
   core-valid-at : r + 4 ≤ 4 * q → c + 4 ≤ 4 * p → T (valid (16 * (p * q)) (coreAt (4 * p) (cell p r c)))
   unfolding coreAt square
   core-valid-at h l = yes-and (places (16 * (p * q)) (square (4 * p) (cell p r c))) _ (square-inside h l) (yes-and (valid 16 core) _ core-valid tt)
@@ -87,9 +94,9 @@ module _ (p q r c : ℕ) where
   square-filter-valid-at h l =
       yes-and (places (16 * (p * q)) (square (4 * p) (cell p r c))) _ (square-inside h l) (yes-and (valid 16 squareFilter) _ square-filter-valid tt)
 
-four-filter-valid-at : (n step at : ℕ) → T (places n (strip step at)) → T (valid n (fourFilterAt step at))
-unfolding fourFilterAt
-four-filter-valid-at n step at t = yes-and (places n (strip step at)) _ t (yes-and (valid 4 fourFilter) _ four-filter-valid tt)
+-- Figure 4.13 at any four places
+four-filter-valid-at : (n : ℕ) (ps : List ℕ) → length ps ≡ 4 → T (places n ps) → T (valid n (apply FourFilter fourFilter ps end))
+four-filter-valid-at n ps e t = yes-and (places n ps) _ t (yes-and (valid (length ps) fourFilter) _ (rw e four-filter-valid) tt)
 
 -- ---- a level
 
@@ -98,11 +105,13 @@ module _ (p q : ℕ) where
   core-uses j i l h = core-valid-at p q (4 * j) (4 * i) (omega arith) (omega arith)
 
   filter-uses : OfFilters (λ a. T (valid (16 * (p * q)) a)) p q
+  unfolding fourFilterAt cornerFilterAt
   filter-uses =
       record {
         squares = λ j i l h. square-filter-valid-at p q (4 * j + 2) (4 * i + 2) (omega arith) (omega arith);
-        rows = λ r i l h. four-filter-valid-at _ _ _ (row-strip-inside p q r (4 * i + 2) l (omega arith));
-        columns = λ c j l h. four-filter-valid-at _ _ _ (column-strip-inside p q (4 * j + 2) c (omega arith) l);
+        rows = λ r i l h. four-filter-valid-at _ (strip 1 (cell p r (4 * i + 2))) refl (row-strip-inside p q r (4 * i + 2) l (omega arith));
+        columns = λ c j l h. four-filter-valid-at _ (strip (4 * p) (cell p (4 * j + 2) c)) refl (column-strip-inside p q (4 * j + 2) c (omega arith) l);
+        corners = λ r c l h. four-filter-valid-at _ (corner (4 * p) (cell p r c)) refl (corner-inside p q r c l h);
       }
 
   pub cores-valid : T (valid (16 * (p * q)) (cores p q))

@@ -2,7 +2,7 @@
 use Prim.Native.Nat.{ℕ, zero, suc, _+_, _*_, _/_, _≤_, _<_}
 use mathlib.Core.Path.{_≡_, refl}
 use mathlib.Core.Bool.{Bool, true, false}
-use mathlib.Core.List.{List}
+use mathlib.Core.List.{List, [], _∷_}
 use native.Mathlib.Omega.{arith}
 use lib.IntN.{ℤ, natAbs}
 use Rattle.lifting.specs.Program.{Program, end, Core, SquareFilter, FourFilter, run, undo, runBy, undoBy, _then_}
@@ -14,7 +14,7 @@ use Rattle.lifting.proofs.Forms.{within-le}
 use Rattle.lifting.proofs.Calm.{Calm, run-joins, undo-joins, run-use, undo-use}
 use Rattle.figures.specs.Figures.{core, squareFilter, fourFilter}
 use Rattle.figures.proofs.Growth.{core-grows, square-filter-grows, four-filter-grows, core-undone-grows, square-filter-undone-grows, four-filter-undone-grows}
-use Rattle.picture.specs.Level.{square, strip, coreAt, squareFilterAt, fourFilterAt, cores, filters, level}
+use Rattle.picture.specs.Level.{square, coreAt, squareFilterAt, cores, filters, level}
 use Rattle.picture.specs.Planes.{Planes, table, grid, coefficients, firstGrid, secondGrid, viewOf}
 use Rattle.picture.specs.declared.size.Size.{Size}
 use Rattle.picture.specs.declared.mode.Mode.{Mode}
@@ -60,19 +60,19 @@ module _ {B C : ℕ} (l : B ≤ C) (p q : ℕ) where
 
   module _ (wide : 0 < p) (tall : 0 < q) where
     filters-run : Reaches 16 B C (wraps squareFilter) (run squareFilter) → Reaches 4 B C (wraps fourFilter) (run fourFilter) → Runs B C (filters p q)
-    unfolding squareFilterAt fourFilterAt square
+    unfolding squareFilterAt square
     filters-run g k = of-calm l (of-filters (run-joins B C) p q
         (record {
           squares = λ S w i s. run-use SquareFilter squareFilter (square w i) g refl s;
-          fours = λ S w i s. run-use FourFilter fourFilter (strip w i) k refl s;
+          fours = λ S a b c d s. run-use FourFilter fourFilter (a ∷ b ∷ c ∷ d ∷ []) k refl s;
         }) wide tall)
 
     filters-undone : Reaches 16 B C (undoWraps squareFilter) (undo squareFilter) → Reaches 4 B C (undoWraps fourFilter) (undo fourFilter) → Undoes B C (filters p q)
-    unfolding squareFilterAt fourFilterAt square
+    unfolding squareFilterAt square
     filters-undone g k = of-calm l (of-filters (undo-joins B C) p q
         (record {
           squares = λ S w i s. undo-use SquareFilter squareFilter (square w i) g refl s;
-          fours = λ S w i s. undo-use FourFilter fourFilter (strip w i) k refl s;
+          fours = λ S a b c d s. undo-use FourFilter fourFilter (a ∷ b ∷ c ∷ d ∷ []) k refl s;
         }) wide tall)
 
 -- ---- levels

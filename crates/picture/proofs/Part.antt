@@ -10,8 +10,8 @@ use native.Mathlib.Nat.{add-mul}
 use lib.Arith.{digits-div, digits-mod}
 use Rattle.lifting.specs.Program.{Program, end, apply, _then_, Operator, Core, SquareFilter, FourFilter}
 use Rattle.figures.specs.Figures.{core, squareFilter, fourFilter}
-use Rattle.picture.specs.Level.{cell, strip, square, coreAt, squareFilterAt, fourFilterAt, cores, squareFilters, rowFilters, columnFilters, filters}
-use Rattle.picture.proofs.Cells.{zone, InCell, core-in-cell, square-filter-in-cell, row-filter-in-cell, column-filter-in-cell}
+use Rattle.picture.specs.Level.{cell, strip, square, corner, coreAt, squareFilterAt, fourFilterAt, cornerFilterAt, cores, squareFilters, rowFilters, columnFilters, cornerFilters, filters}
+use Rattle.picture.proofs.Cells.{zone, InCell, core-in-cell, square-filter-in-cell, row-filter-in-cell, column-filter-in-cell, corner-filter-in-cell}
 use Rattle.lifting.proofs.Between.{All, all-map, Pairing, OneToOne, Pairs, FreeLeft, FreeRight, Alike, Like, pairs-append, like-then, free-left, free-right, both-free, none-left, none-right, like-all, like-each, like-use}
 
 -- row r, column c of the small grid and row r, column 4 * k + c of the wide one, in a cell of Q
@@ -116,6 +116,21 @@ module _ (d p k P q : ℕ) (fits : k + p ≤ P) (Q : ℕ → ℕ → Type 0) whe
         (twin (r + 1) c e1 f1 (omega arith) h (omega arith) z)
         (twin (r + 1 + 1) c e2 f2 (omega arith) h (omega arith) z)
         (twin (r + 1 + 1 + 1) c e3 f3 (omega arith) h (omega arith) z)
+
+    twin-corners : (r c i j : ℕ) → i ≡ cell p r c → j ≡ cell P r (4 * k + c) → r + 1 < 4 * q → c + 1 < 4 * p → zone d r ≡ a → zone d (r + 1) ≡ a → zone d c ≡ b → zone d (c + 1) ≡ b
+        → Pairs Twins (corner (4 * p) i) (corner (4 * P) j)
+    twin-corners r c i j e f l h x y z u =
+        let e1 = down (4 * p) r c i e in
+        let f1 = down (4 * P) r (4 * k + c) j f in (
+          twin r c e f (omega arith) (omega arith) x z,
+          (
+            twin r (c + 1) (omega arith) (omega arith) (omega arith) h x u,
+            (
+              twin (r + 1) c e1 f1 l (omega arith) y z,
+              (twin (r + 1) (c + 1) (omega arith) (omega arith) l h y u, tt),
+            ),
+          ),
+        )
 
     twin-squares : (r c i j : ℕ) → i ≡ cell p r c → j ≡ cell P r (4 * k + c) → r + 3 < 4 * q → c + 3 < 4 * p → zone d r ≡ a → zone d (r + 3) ≡ a → zone d c ≡ b → zone d (c + 3) ≡ b
         → Pairs Twins (square (4 * p) i) (square (4 * P) j)
@@ -226,17 +241,20 @@ module _ (p k P q : ℕ) (fits : k + p ≤ P) (Q : ℕ → ℕ → Type 0) (deci
   unfolding columnFilters
   columns-matched c e h f = like-all (Alike FilterTwins) (q - 1) _ _ (λ j l. rw (← f) (column-matched c j h l))
 
+  -- four places of the small grid in a cell across a seam, and four of the wide grid in a cell beyond it
+  fours-free : (a b e : ℕ) (ps qs : List ℕ) → ¬ Q a b → ((x : ℕ) → 4 * x < 4 * p + 2 → k + x ≡ e → ⊥) → All (InCell 2 p a b) ps → All (InCell 2 P a e) qs
+      → Like (Alike FilterTwins) (apply FourFilter fourFilter ps end) (apply FourFilter fourFilter qs end)
+  fours-free a b e ps qs n o l r =
+      both-free (Alike FilterTwins) _ _ (free-left FilterTwins FourFilter fourFilter ps (free-small 2 p k P q fits Q a b ps n l))
+      (use-free 2 p k P q fits Q a e FourFilter fourFilter qs r (λ x y f has. o x y f))
+
   -- a column of the small grid that lies at a seam, and one of the wide grid beyond it
   columns-free : (c e b : ℕ) → c < 4 * p → e < 4 * P → zone 2 c ≡ b → ((a : ℕ) → ¬ Q a b) → ((x : ℕ) → 4 * x < 4 * p + 2 → k + x ≡ zone 2 e → ⊥)
       → Like (Alike FilterTwins) (columnFilters p q c) (columnFilters P q e)
   unfolding columnFilters fourFilterAt
   columns-free c e b h m z n o =
-      both-free (Alike FilterTwins) _ _
-      (none-left (Alike FilterTwins) (q - 1) _ (λ j l.
-      free-left FilterTwins FourFilter fourFilter (strip (4 * p) (cell p (4 * j + 2) c))
-      (free-small 2 p k P q fits Q (j + 1) (zone 2 c) (strip (4 * p) (cell p (4 * j + 2) c)) (rw z (n (j + 1))) (column-filter-in-cell p c j h))))
-      (none-right (Alike FilterTwins) (q - 1) _ (λ j l.
-      use-free 2 p k P q fits Q (j + 1) (zone 2 e) FourFilter fourFilter (strip (4 * P) (cell P (4 * j + 2) e)) (column-filter-in-cell P e j m) (λ x y f has. o x y f)))
+      like-all (Alike FilterTwins) (q - 1) _ _ (λ j l.
+      fours-free (j + 1) (zone 2 c) (zone 2 e) (strip (4 * p) (cell p (4 * j + 2) c)) (strip (4 * P) (cell P (4 * j + 2) e)) (rw z (n (j + 1))) o (column-filter-in-cell p c j h) (column-filter-in-cell P e j m))
 
   left-columns : (c : ℕ) → c < 2 → Like (Alike FilterTwins) (columnFilters p q c) (columnFilters P q c)
   left-columns c h =
@@ -250,13 +268,43 @@ module _ (p k P q : ℕ) (fits : k + p ≤ P) (Q : ℕ → ℕ → Type 0) (deci
       (λ e. columns-matched (4 * p - c) (4 * P - c) (omega arith) (omega (arith, e)))
       (λ o. columns-free (4 * p - c) (4 * P - c) p (omega arith) (omega arith) (omega arith) (no-right (omega (arith, o))) (λ x m e. omega (arith, o)))
 
+  both : {a b c d : Program} → Like (Alike FilterTwins) a c → Like (Alike FilterTwins) b d → Like (Alike FilterTwins) (a then b) (c then d)
+  both {a} {b} {c} {d} f g = like-then (Alike FilterTwins) a b c d f g
+
+  -- the corners in rows r and r + 1, which lie in one cell
+  module _ (r : ℕ) (low : r + 1 < 4 * q) (one : zone 2 (r + 1) ≡ zone 2 r) where
+    corner-matched : (c e : ℕ) → c + 1 < 4 * p → zone 2 (c + 1) ≡ zone 2 c → 4 * k + c ≡ e → Like (Alike FilterTwins) (cornerFilterAt (4 * p) (cell p r c)) (cornerFilterAt (4 * P) (cell P r e))
+    unfolding cornerFilterAt
+    corner-matched c e h z f =
+        rw (← f) (use-matched 2 p k P q fits Q (zone 2 r) (zone 2 c) FourFilter fourFilter _ _ (decide (zone 2 r) (zone 2 c)) (corner-filter-in-cell p r c h one z)
+        (subst (λ (b : ℕ). All (InCell 2 P (zone 2 r) b) (corner (4 * P) (cell P r (4 * k + c)))) (omega arith) (corner-filter-in-cell P r (4 * k + c) (omega arith) one (omega arith)))
+        (λ has. twin-corners 2 p k P q fits Q (zone 2 r) (zone 2 c) has r c _ _ refl refl low h refl one refl z))
+
+    corner-free : (c e b : ℕ) → c + 1 < 4 * p → e + 1 < 4 * P → zone 2 c ≡ b → zone 2 (c + 1) ≡ b → zone 2 (e + 1) ≡ zone 2 e → ((a : ℕ) → ¬ Q a b) → ((x : ℕ) → 4 * x < 4 * p + 2 → k + x ≡ zone 2 e → ⊥)
+        → Like (Alike FilterTwins) (cornerFilterAt (4 * p) (cell p r c)) (cornerFilterAt (4 * P) (cell P r e))
+    unfolding cornerFilterAt
+    corner-free c e b h m z y w n o =
+        fours-free (zone 2 r) (zone 2 c) (zone 2 e) (corner (4 * p) (cell p r c)) (corner (4 * P) (cell P r e)) (rw z (n (zone 2 r))) o (corner-filter-in-cell p r c h one (omega arith)) (corner-filter-in-cell P r e m one w)
+
+    left-corner : Like (Alike FilterTwins) (cornerFilterAt (4 * p) (cell p r 0)) (cornerFilterAt (4 * P) (cell P r 0))
+    left-corner =
+        by-cases (ℕ-discrete k 0)
+        (λ e. corner-matched 0 0 (omega arith) (omega arith) (omega (arith, e)))
+        (λ o. corner-free 0 0 0 (omega arith) (omega arith) (omega arith) (omega arith) (omega arith) (no-left (omega (arith, o))) (λ x l e. omega (arith, o)))
+
+    right-corner : Like (Alike FilterTwins) (cornerFilterAt (4 * p) (cell p r (4 * p - 2))) (cornerFilterAt (4 * P) (cell P r (4 * P - 2)))
+    right-corner =
+        by-cases (ℕ-discrete (k + p) P)
+        (λ e. corner-matched (4 * p - 2) (4 * P - 2) (omega arith) (omega arith) (omega (arith, e)))
+        (λ o. corner-free (4 * p - 2) (4 * P - 2) p (omega arith) (omega arith) (omega arith) (omega arith) (omega arith) (no-right (omega (arith, o))) (λ x m e. omega (arith, o)))
+
   pub filters-like : Like (Alike (Twin 2 p k P q Q)) (filters p q) (filters P q)
-  unfolding filters
+  unfolding filters cornerFilters
   filters-like =
       both squares-like
       (both
       (both (rows-like 0 (omega arith)) (both (rows-like 1 (omega arith)) (both (rows-like (4 * q - 2) (omega arith)) (rows-like (4 * q - 1) (omega arith)))))
-      (both (left-columns 0 (omega arith)) (both (left-columns 1 (omega arith)) (both (right-columns 2 (omega arith) (omega arith)) (right-columns 1 (omega arith) (omega arith))))))
-    where
-      both : {a b c d : Program} → Like (Alike FilterTwins) a c → Like (Alike FilterTwins) b d → Like (Alike FilterTwins) (a then b) (c then d)
-      both {a} {b} {c} {d} f g = like-then (Alike FilterTwins) a b c d f g
+      (both
+      (both (left-columns 0 (omega arith)) (both (left-columns 1 (omega arith)) (both (right-columns 2 (omega arith) (omega arith)) (right-columns 1 (omega arith) (omega arith)))))
+      (both (left-corner 0 (omega arith) (omega arith)) (both (right-corner 0 (omega arith) (omega arith))
+      (both (left-corner (4 * q - 2) (omega arith) (omega arith)) (right-corner (4 * q - 2) (omega arith) (omega arith)))))))

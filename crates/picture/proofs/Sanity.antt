@@ -2,7 +2,7 @@
 use Prim.Native.Nat.{ℕ, zero, suc, _+_, _-_, _*_, _/_, _%_, _≤_, _<_}
 use mathlib.Core.Path.{_≡_, refl, sym, subst}
 use mathlib.Core.Bool.{Bool, true, false, cond, _&&_, _||_, Bool·beq}
-use mathlib.Core.List.{List, [], _∷_}
+use mathlib.Core.List.{List, [], _∷_, _++_}
 use native.Mathlib.Omega.{arith}
 use lib.Dec.{T, eqb, leb, ltb, lit<}
 use lib.ListN.{set}
@@ -12,11 +12,12 @@ use mir.Val.{SFits}
 use mir.Syntax.{w32}
 use Rattle.lifting.specs.Tests.{all}
 use Rattle.lifting.specs.Row.{Row}
+use Rattle.lifting.specs.Valid.{places}
 use Rattle.lifting.specs.Wrap.{wrap}
 use Rattle.lifting.specs.Program.{end, at, run, line, value, get, put, _then_, each, lineBy, runBy, valueBy}
 use Rattle.figures.specs.Figures.{hadamard, odd, oddOdd, core, coreStages, rotation, scale, postHadamard, postOddOdd, fourFilter, squareFilter}
 use Rattle.picture.specs.declared.size.Size.{Size}
-use Rattle.picture.specs.Level.{square, coreAt, squareFilterAt, fourFilterAt, cores, squareFilters, rowFilters, columnFilters, filters, level}
+use Rattle.picture.specs.Level.{square, corner, coreAt, squareFilterAt, fourFilterAt, cornerFilterAt, cores, squareFilters, rowFilters, columnFilters, cornerFilters, filters, level}
 use Rattle.picture.specs.Modes.{modeOf}
 use Rattle.picture.specs.Planes.{Planes, PlanesOf, table, grid, blockOrder, firstGrid, secondGrid}
 use Rattle.picture.specs.Windows.{highMargin, lowMargin}
@@ -83,7 +84,7 @@ abbrev columnsBetween : ℕ → ℕ → List ℤ → Bool
 columnsBetween a b samples = all 16 (λ x. Bool·beq (some 16 (λ y. changed (at samples (y * 16 + x)))) (leb a x && ltb x b))
 
 pub reached : T (columnsBelow (16 + lowMargin 1) (left 1) && columnsBelow (16 + lowMargin 2) (left 2) && rowsFrom (16 - lowMargin 2) lower && columnsBetween (4 - highMargin 1) (8 + highMargin 1) inner)
-unfolding wrap runBy lineBy valueBy get put _then_ each hadamard odd oddOdd core coreStages rotation scale postHadamard postOddOdd fourFilter squareFilter square coreAt squareFilterAt fourFilterAt cores squareFilters rowFilters columnFilters filters level table grid firstGrid secondGrid quarterBy inverseBy
+unfolding wrap runBy lineBy valueBy get put _then_ each hadamard odd oddOdd core coreStages rotation scale postHadamard postOddOdd fourFilter squareFilter square coreAt squareFilterAt fourFilterAt cornerFilterAt cores squareFilters rowFilters columnFilters cornerFilters filters level table grid firstGrid secondGrid quarterBy inverseBy
 reached = tt
 
 -- ---- each half of the claim over whole pictures, cited at a concrete place
@@ -124,17 +125,31 @@ unreached mode h =
     whole-pictures mode (of 2 2) (small-shape mode 2 2 h (omega arith) (omega arith) (omega arith) (omega arith)) .windows nothing edited 31 31 (omega arith)
     (record { blocks = λ b l n w. n (λ k m. sym (getD-set-other (nothing .high) 0 (15 * blockOrder 2 b + k) (pos 4096) (pos 0) (λ e. omega (arith, e, w .row .high, narrow mode)))); macroblocks = λ m l n w. n (refl, λ k l. refl) })
 
--- ---- a grid of one column of squares has four edge columns, each filtered once, and a grid of one row of squares four edge rows
+-- ---- a grid of one column of squares has four edge columns, each filtered once, and a grid of one row of squares four edge rows; both have four corners
 
 each-end : (n : ℕ) → each n (λ j. end) ≡ end
 unfolding each _then_
 each-end zero = refl
 each-end (suc n) = rw (each-end n)
 
-pub one-across : (q : ℕ) → filters 1 q ≡ columnFilters 1 q 0 then columnFilters 1 q 1 then columnFilters 1 q 2 then columnFilters 1 q 3
+pub one-across : (q : ℕ) → filters 1 q ≡ (columnFilters 1 q 0 then columnFilters 1 q 1 then columnFilters 1 q 2 then columnFilters 1 q 3) then cornerFilters 1 q
 unfolding filters squareFilters rowFilters each _then_
 one-across q = rw (each-end (q - 1))
 
-pub one-down : (p : ℕ) → filters p 1 ≡ rowFilters p 0 then rowFilters p 1 then rowFilters p 2 then rowFilters p 3
+pub one-down : (p : ℕ) → filters p 1 ≡ (rowFilters p 0 then rowFilters p 1 then rowFilters p 2 then rowFilters p 3) then cornerFilters p 1
 unfolding filters squareFilters columnFilters each _then_
-one-down p = then-end (rowFilters p 0 then rowFilters p 1 then rowFilters p 2 then rowFilters p 3)
+one-down p = refl
+
+-- one square has its corners alone. They do not share a place, since rows and columns 2 and 3 are the last two: all sixteen are different places of the grid
+pub corners-tile : (filters 1 1 ≡ cornerFilters 1 1) × T (places 16 (corner 4 0 ++ corner 4 2 ++ corner 4 8 ++ corner 4 10))
+unfolding filters squareFilters rowFilters columnFilters each _then_
+corners-tile = (refl, tt)
+
+-- the numbers 0, 100, 400, 900 and so on, each corner through the lines of Figure 4.13: worked out apart from these definitions
+pub corner-values : run (filters 1 1) (table 16 (λ i. pos (100 * (i * i)))) ≡
+    pos 420 ∷ pos 922 ∷ pos 1240 ∷ pos 2529 ∷
+    pos 1128 ∷ pos 2596 ∷ pos 2898 ∷ pos 5155 ∷
+    pos 9491 ∷ pos 13141 ∷ pos 14173 ∷ pos 18609 ∷
+    pos 13993 ∷ pos 18615 ∷ pos 19619 ∷ pos 25030 ∷ []
+unfolding wrap runBy lineBy valueBy get put _then_ each rotation fourFilter cornerFilterAt squareFilters rowFilters columnFilters cornerFilters filters table
+corner-values = refl

@@ -3,7 +3,7 @@
 use Prim.Native.Nat.{ℕ, _+_, _*_, _<_}
 use mathlib.Core.Path.{_≡_, _∙_, ap}
 use mathlib.Core.Bool.{Bool, true, false, _||_}
-use mathlib.Core.List.{List}
+use mathlib.Core.List.{List, [], _∷_}
 use native.Mathlib.Omega.{arith}
 use lib.Arith.{digits-div, digits-mod, digits-lt}
 use lib.Dec.{T}
@@ -22,7 +22,7 @@ use Rattle.lifting.proofs.Turned.{wraps-turned, undo-wraps-turned}
 use Rattle.lifting.proofs.AnyUse.{any-use-then, any-use-each, any-use-apply}
 use Rattle.lifting.proofs.Apart.{run-alone, undone-alone, run-alone-use, undone-alone-use}
 use Rattle.figures.specs.Figures.{core, squareFilter, fourFilter}
-use Rattle.picture.specs.Level.{cell, square, strip, coreAt, squareFilterAt, fourFilterAt, squareFilters, rowFilters, columnFilters, alongEdges, cores, filters, filtersIf, level}
+use Rattle.picture.specs.Level.{cell, square, coreAt, squareFilterAt, squareFilters, rowFilters, columnFilters, alongEdges, cornerFilters, cores, filters, filtersIf, level}
 use Rattle.picture.specs.Planes.{table, grid}
 use Rattle.picture.proofs.Table.{table-same}
 use Rattle.picture.proofs.Grid.{at-grid}
@@ -37,22 +37,24 @@ unfolding coreAt
 cores-alone p q v = of-cores run-alone p q (λ S w i h. run-alone-use Core core (square w i) h) .alone v
 
 filters-alone : (p q : ℕ) → 0 < p → 0 < q → (v : List ℤ) → undoWraps (filters p q) v ≡ anyUse undoWraps (filters p q) v
-unfolding squareFilterAt fourFilterAt
+unfolding squareFilterAt
 filters-alone p q wide tall v =
     of-filters undone-alone p q
     (record {
       squares = λ S w i h. undone-alone-use SquareFilter squareFilter (square w i) h;
-      fours = λ S w i h. undone-alone-use FourFilter fourFilter (strip w i) h;
+      fours = λ S a b c d h. undone-alone-use FourFilter fourFilter (a ∷ b ∷ c ∷ d ∷ []) h;
     }) wide tall .alone v
 
--- windows, edge rows and edge columns
+-- windows, edge rows, edge columns and corners
 pub filters-told : (p q : ℕ) → 0 < p → 0 < q → (v : List ℤ)
-    → undoWraps (filters p q) v ≡ anyUse undoWraps (squareFilters p q) v || (anyUse undoWraps (alongEdges q (rowFilters p)) v || anyUse undoWraps (alongEdges p (columnFilters p q)) v)
+    → undoWraps (filters p q) v ≡ anyUse undoWraps (squareFilters p q) v || (anyUse undoWraps (alongEdges q (rowFilters p)) v || (anyUse undoWraps (alongEdges p (columnFilters p q)) v || anyUse undoWraps (cornerFilters p q) v))
 unfolding filters
 filters-told p q wide tall v =
     filters-alone p q wide tall v
     ∙ any-use-then undoWraps (squareFilters p q) _ v
-    ∙ ap (λ b. anyUse undoWraps (squareFilters p q) v || b) (any-use-then undoWraps (alongEdges q (rowFilters p)) (alongEdges p (columnFilters p q)) v)
+    ∙ ap (λ b. anyUse undoWraps (squareFilters p q) v || b)
+    (any-use-then undoWraps (alongEdges q (rowFilters p)) _ v
+    ∙ ap (λ b. anyUse undoWraps (alongEdges q (rowFilters p)) v || b) (any-use-then undoWraps (alongEdges p (columnFilters p q)) (cornerFilters p q) v))
 
 -- ---- the cores of a grid, square by square
 

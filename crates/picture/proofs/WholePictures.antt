@@ -13,7 +13,7 @@ use Rattle.lifting.proofs.Compose.{run-then}
 use Rattle.lifting.proofs.Reverse.{length-put}
 use Rattle.picture.specs.declared.size.Size.{Size}
 use Rattle.picture.specs.Sizes.{Sized, macroblocks}
-use Rattle.picture.specs.Level.{coreAt, squareFilterAt, fourFilterAt, level}
+use Rattle.picture.specs.Level.{coreAt, squareFilterAt, fourFilterAt, cornerFilterAt, level}
 use Rattle.picture.specs.Planes.{Planes, secondGrid}
 use Rattle.picture.specs.Transform.{inverseBy, inverse}
 use Rattle.picture.specs.Windows.{InNoWindow}
@@ -37,8 +37,8 @@ module _ (p q : ℕ) (wide : 0 < p) (tall : 0 < q) where
   keeps-cores j i l m v = length-put _ _ v
 
   keeps-filters : OfFilters KeepsLength p q
-  unfolding runBy squareFilterAt fourFilterAt
-  keeps-filters = record { squares = λ j i l m v. length-put _ _ v; rows = λ r i l m v. length-put _ _ v; columns = λ c j l m v. length-put _ _ v }
+  unfolding runBy squareFilterAt fourFilterAt cornerFilterAt
+  keeps-filters = record { squares = λ j i l m v. length-put _ _ v; rows = λ r i l m v. length-put _ _ v; columns = λ c j l m v. length-put _ _ v; corners = λ r c l m v. length-put _ _ v }
 
   pub length-level : (filtered : Bool) → KeepsLength (level filtered p q)
   unfolding level runBy

@@ -13,9 +13,12 @@ cell p r c = r * (4 * p) + c
 abbrev pub strip : ℕ → ℕ → List ℕ
 strip step at = at ∷ (at + step) ∷ (at + step + step) ∷ (at + step + step + step) ∷ []
 
--- the 4 x 4 square whose first place is `at`, row by row, in a grid of `w` columns
+-- the 4 x 4 square whose first place is `at`, and the 2 x 2 one, row by row, in a grid of `w` columns
 unfoldable pub square : ℕ → ℕ → List ℕ
 square w at = strip 1 at ++ strip 1 (at + w) ++ strip 1 (at + w + w) ++ strip 1 (at + w + w + w)
+
+abbrev pub corner : ℕ → ℕ → List ℕ
+corner w at = at ∷ (at + 1) ∷ (at + w) ∷ (at + w + 1) ∷ []
 
 unfoldable pub coreAt : ℕ → ℕ → Program
 coreAt w at = apply Core core (square w at) end
@@ -25,6 +28,9 @@ squareFilterAt w at = apply SquareFilter squareFilter (square w at) end
 
 unfoldable pub fourFilterAt : ℕ → ℕ → Program
 fourFilterAt step at = apply FourFilter fourFilter (strip step at) end
+
+unfoldable pub cornerFilterAt : ℕ → ℕ → Program
+cornerFilterAt w at = apply FourFilter fourFilter (corner w at) end
 
 -- the core transform on every aligned square
 unfoldable pub cores : ℕ → ℕ → Program
@@ -45,9 +51,15 @@ columnFilters p q c = each (q - 1) (λ j. fourFilterAt (4 * p) (cell p (4 * j + 
 abbrev pub alongEdges : ℕ → (ℕ → Program) → Program
 alongEdges n line = line 0 then line 1 then line (4 * n - 2) then line (4 * n - 1)
 
--- the top two and bottom two rows, and the two leftmost and two rightmost columns; the corners stay unfiltered
+-- Figure 4.13 on the corners: rows 0 and 1 and the last two, columns 0 and 1 and the last two (02, f)
+unfoldable pub cornerFilters : ℕ → ℕ → Program
+cornerFilters p q =
+    cornerFilterAt (4 * p) (cell p 0 0) then cornerFilterAt (4 * p) (cell p 0 (4 * p - 2))
+    then cornerFilterAt (4 * p) (cell p (4 * q - 2) 0) then cornerFilterAt (4 * p) (cell p (4 * q - 2) (4 * p - 2))
+
+-- the top two and bottom two rows, the two leftmost and two rightmost columns, and the corners that these rows and columns share
 abbrev pub edgeFilters : ℕ → ℕ → Program
-edgeFilters p q = alongEdges q (rowFilters p) then alongEdges p (columnFilters p q)
+edgeFilters p q = alongEdges q (rowFilters p) then alongEdges p (columnFilters p q) then cornerFilters p q
 
 unfoldable pub filters : ℕ → ℕ → Program
 filters p q = squareFilters p q then edgeFilters p q

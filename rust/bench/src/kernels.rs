@@ -24,10 +24,11 @@ impl Counts {
         let levels = [(4, mode != Mode::Unfiltered), (1, mode == Mode::BothLevels)];
         for (blocks, filtered) in levels {
             if filtered {
-                // Filters lie between blocks; along each of the four sides they come in twos.
+                // Filters lie between blocks; along each of the four sides they come in twos, and each
+                // corner has one.
                 let (across, down) = (blocks * width - 1, blocks * height - 1);
                 counts.squares += across * down;
-                counts.fours += 4 * (across + down);
+                counts.fours += 4 * (across + down) + 4;
             }
         }
         counts

@@ -13,7 +13,8 @@ pub struct Work {
     /// How many overlap filters of 4 × 4 numbers there are: where a level is filtered, one wherever
     /// four of its squares meet.
     pub square_filters: u32,
-    /// How many overlap filters of four numbers there are, along the edges of a filtered level.
+    /// How many overlap filters of four numbers there are: along the edges of a filtered level, and one
+    /// at each of its corners.
     pub four_filters: u32,
     /// How many bytes the three planes have: four for each coefficient.
     pub plane_bytes: u32,
@@ -30,7 +31,7 @@ pub struct Work {
 /// let work = forecast(Mode::BothLevels, size);
 /// assert_eq!(work.cores, 2 + 32); // of macroblocks, and of blocks
 /// assert_eq!(work.square_filters, 7 * 3); // level one, one macroblock high, has none
-/// assert_eq!(work.four_filters, 4 * 1 + 4 * 7 + 4 * 3);
+/// assert_eq!(work.four_filters, (4 * 1 + 4) + (4 * 7 + 4 * 3 + 4)); // of both levels
 /// assert_eq!(work.plane_bytes, 4 * size.samples() as u32);
 ///
 /// assert_eq!(forecast(Mode::Unfiltered, size).four_filters, 0);

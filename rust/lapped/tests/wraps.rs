@@ -318,6 +318,11 @@ fn uses(operator: usize, width: usize, height: usize) -> Vec<Vec<usize>> {
                     uses.push((0..4).map(|k| (row + k) * width + column).collect());
                 }
             }
+            for row in [0, height - 2] {
+                for column in [0, width - 2] {
+                    uses.push((0..4).map(|k| (row + k / 2) * width + column + k % 2).collect());
+                }
+            }
         }
     }
     uses

@@ -13,11 +13,12 @@ pub struct Work {
 }
 
 impl Work {
-    /// Walks over a grid of a level and counts what starts at each place (01, "One level").
+    /// Walks over a grid of a level and counts what starts at each place (01, "One level"; 02, f).
     fn count_level(&mut self, filtered: bool, width: usize, height: usize) {
         let aligned = |place: usize| place % 4 == 0;
         // "whose first row and column both leave 2 on division by 4", "wherever those four exist"
         let between = |place: usize, side: usize| place % 4 == 2 && place + 3 < side;
+        let corner = |place: usize, side: usize| place == 0 || place + 2 == side;
         let edge = |place: usize, side: usize| place < 2 || place + 2 >= side;
         for row in 0..height {
             for column in 0..width {
@@ -27,6 +28,7 @@ impl Work {
                     self.square_filters += u64::from(down && across);
                     self.four_filters += u64::from(edge(row, height) && across);
                     self.four_filters += u64::from(edge(column, width) && down);
+                    self.four_filters += u64::from(corner(row, height) && corner(column, width));
                 }
             }
         }

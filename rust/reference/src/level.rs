@@ -33,14 +33,13 @@ impl<'a> Grid<'a> {
         }
     }
 
-    /// Replaces the four cells `start`, `start + step`, … by what `operator` makes of them.
+    /// Replaces the four cells at these places by what `operator` makes of them.
     fn map_four(
         &mut self,
-        start: usize,
-        step: usize,
+        places: [(usize, usize); 4],
         operator: &mut impl FnMut([i32; 4]) -> [i32; 4],
     ) {
-        let places = [start, start + step, start + 2 * step, start + 3 * step];
+        let places = places.map(|(row, column)| row * self.width + column);
         let results = operator(places.map(|place| self.cells[place]));
         for (place, result) in places.into_iter().zip(results) {
             self.cells[place] = result;
@@ -48,8 +47,8 @@ impl<'a> Grid<'a> {
     }
 
     /// Runs the overlap filters of a level, in one direction or the other: `square_filter` on the
-    /// squares between four blocks, `four_filter` along the edges. The corners stay as they are.
-    /// The windows are disjoint, so one order serves both directions.
+    /// squares between four blocks, `four_filter` along the edges and on the 2 × 2 corners, each row
+    /// by row (02, f). The windows are disjoint, so one order serves both directions.
     pub fn filter(
         &mut self,
         mut square_filter: impl FnMut(Block) -> Block,
@@ -65,12 +64,18 @@ impl<'a> Grid<'a> {
         }
         for row in [0, 1, height - 2, height - 1] {
             for column in (2..width - 3).step_by(4) {
-                self.map_four(row * width + column, 1, &mut four_filter);
+                self.map_four([0, 1, 2, 3].map(|i| (row, column + i)), &mut four_filter);
             }
         }
         for column in [0, 1, width - 2, width - 1] {
             for row in (2..height - 3).step_by(4) {
-                self.map_four(row * width + column, width, &mut four_filter);
+                self.map_four([0, 1, 2, 3].map(|i| (row + i, column)), &mut four_filter);
+            }
+        }
+        for row in [0, height - 2] {
+            for column in [0, width - 2] {
+                let corner = [(0, 0), (0, 1), (1, 0), (1, 1)];
+                self.map_four(corner.map(|(i, j)| (row + i, column + j)), &mut four_filter);
             }
         }
     }

@@ -10,19 +10,20 @@ fn work(mode: u32, width: u32, height: u32) -> Work {
 }
 
 /// "p × q cores and, when filtered, (p − 1)(q − 1) square filters and 4(p − 1) + 4(q − 1) four-number
-/// filters", worked out by hand.
+/// filters" (02, b), and 4 at the corners (02, f), worked out by hand.
 #[test]
 fn worked_out_by_hand() {
     let bytes = |n: u64| Work { plane_bytes: 1024 * n, sample_bytes: 1024 * n, ..Work::default() };
     let one = Work { cores: 1 + 16, ..bytes(1) };
     assert_eq!(work(0, 1, 1), one);
-    let filtered = Work { square_filters: 3 * 3, four_filters: 12 + 12, ..one };
-    assert_eq!((work(1, 1, 1), work(2, 1, 1)), (filtered, filtered));
+    let samples = Work { square_filters: 3 * 3, four_filters: 12 + 12 + 4, ..one };
+    assert_eq!(work(1, 1, 1), samples);
+    assert_eq!(work(2, 1, 1), Work { four_filters: 12 + 12 + 4 + 4, ..samples });
 
     let six = Work { cores: 6 + 96, ..bytes(6) };
     assert_eq!(work(0, 2, 3), six);
-    assert_eq!(work(1, 2, 3), Work { square_filters: 7 * 11, four_filters: 28 + 44, ..six });
-    let (square_filters, four_filters) = (2 + 7 * 11, 4 + 8 + 28 + 44);
+    assert_eq!(work(1, 2, 3), Work { square_filters: 7 * 11, four_filters: 28 + 44 + 4, ..six });
+    let (square_filters, four_filters) = (2 + 7 * 11, 4 + 8 + 4 + 28 + 44 + 4);
     assert_eq!(work(2, 2, 3), Work { square_filters, four_filters, ..six });
 }
 

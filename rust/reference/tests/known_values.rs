@@ -1,6 +1,7 @@
 //! The values that 01 gives, starred and unstarred, and values worked out by hand from the rules of 02,
 //! held against the reference.
 
+use reference::level::Grid;
 use reference::number::plain;
 use reference::operators::inverse as op;
 use reference::operators::{FORWARD_REORDER, INVERSE_REORDER};
@@ -141,4 +142,42 @@ fn coefficients_of_levels() {
     assert_eq!(restore_number(1_073_741_824, 2), None);
     assert_eq!(restore_number(-4_228, 507_904), Some(-2_147_418_112));
     assert_eq!(restore_number(-4_229, 507_904), None);
+}
+
+/// The numbers 0, 100, 400, 900, .. of one square, of which each corner goes through Figure 4.13, its
+/// four numbers row by row: worked out line by line, apart from the reference.
+#[test]
+fn corners_of_one_square() {
+    let mut cells: Vec<i32> = (0..16).map(|i| 100 * i * i).collect();
+    let four_filter = |four| plain(op::overlap_four, four);
+    Grid::new(4, 4, &mut cells).filter(|_| panic!("one square has no window"), four_filter);
+    let expected = [
+        [420, 922, 1240, 2529],
+        [1128, 2596, 2898, 5155],
+        [9491, 13141, 14173, 18609],
+        [13993, 18615, 19619, 25030],
+    ];
+    assert_eq!(cells, expected.concat());
+}
+
+/// No number lies in two windows of a filtered level, and each lies in one.
+#[test]
+fn windows_tile_the_grid() {
+    for (width, height) in [(4, 4), (4, 8), (8, 4), (4, 28), (28, 4), (8, 8), (12, 20)] {
+        let mut cells: Vec<i32> = (0..(width * height) as i32).collect();
+        let (mut squares, mut fours) = (Vec::new(), Vec::new());
+        Grid::new(width, height, &mut cells).filter(
+            |square| {
+                squares.extend(square);
+                square
+            },
+            |four| {
+                fours.extend(four);
+                four
+            },
+        );
+        let mut places = [squares, fours].concat();
+        places.sort_unstable();
+        assert_eq!(places, cells, "{width} x {height}");
+    }
 }

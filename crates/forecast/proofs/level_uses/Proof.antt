@@ -16,4 +16,4 @@ pub level-uses-spec : {M : Type 1} → statement M
 level-uses-spec =
     tie.close
     (tie.spec (λ c. few-fit (c .pre) (omega arith) (omega arith)) (λ c. search needs) (λ c. search needs) (λ c. few-fit (c .before .pre) (omega arith) (omega arith))
-    (λ c. search needs) (λ c. search needs) (λ c. search needs) (λ c. search needs) (λ c. search needs) returns returns-2)
+    (λ c. search needs) (λ c. search needs) (λ c. search needs) (λ c. search needs) (λ c. search needs) (λ c. search needs) returns returns-2)

@@ -27,7 +27,7 @@ edge-columns-requires c κs =
     let g = s .pre .0 in
     let h = s .pre .1 .1 .1 .1 in
     let end : s .args .c + s .args .n ≡ s .args .size .width .0 = omega (arith, t .if1) in
-    (given-of g (m .middle .ensures .1 .len ∙ l .left .ensures .1), (s .pre .1 .0, (s .pre .1 .1 .0, ((omega (arith, h), omega (arith, h, end)), (inr (omega (arith, h, end)), inr (omega (arith, h, end)))))))
+    (given-of g (m .middle .ensures .1 .len ∙ l .left .ensures .1), (s .pre .1 .0, (s .pre .1 .1 .0, (omega (arith, h), inr (omega (arith, h, end))))))
 
 returns : tie.Need-returns
 returns c =

@@ -12,7 +12,7 @@ edge-columns-requires c κs =
     let t = c .before in
     let s = t .before in
     let none : s .args .c ≡ 0 = omega (arith, t .if1) in
-    (s .pre .0, (s .pre .1 .0, (s .pre .1 .1 .0, ((omega arith, omega (arith, none, s .pre .0 .sized .wide)), (inl (omega (arith, none)), inl (omega (arith, none)))))))
+    (s .pre .0, (s .pre .1 .0, (s .pre .1 .1 .0, (omega arith, inl (omega (arith, none))))))
 
 returns-2 : tie.Need-returns-2
 returns-2 c =
