@@ -17,7 +17,7 @@ use Rattle.picture.proofs.CheckLaws.{few-macroblocks}
 use Rattle.grid.proofs.Rows.{row-inside, row-above}
 use Rattle.forward_one_grid.specs.Held.{Held}
 use Rattle.forward_one_grid.proofs.Lines.{row-line, column-line, corner-is}
-use Rattle.forward_one_filters.specs.Edges.{filterAcross, filterIn, line, edges, corners}
+use Rattle.forward_one_filters.specs.Edges.{filterOf, line, edges, corners}
 
 -- ---- squares
 
@@ -61,8 +61,8 @@ unfolding edges
 edges-parts size far pace side step n v e f g h = rw (h, g, f, e) (simp undo-then)
 
 -- and four corners
-pub corners-parts : (size : Size) (right bottom last : ℕ) (v : List ℤ) {v1 v2 v3 v4 : List ℤ} → v1 ≡ undo (filterIn size last 10) v → v2 ≡ undo (filterIn size bottom 8) v1
-    → v3 ≡ undo (filterIn size right 2) v2 → v4 ≡ undo (filterIn size 0 0) v3 → v4 ≡ undo (corners size right bottom last) v
+pub corners-parts : (size : Size) (right bottom last : ℕ) (v : List ℤ) {v1 v2 v3 v4 : List ℤ} → v1 ≡ undo (filterOf size last 10 last 14 1) v → v2 ≡ undo (filterOf size bottom 8 bottom 12 1) v1
+    → v3 ≡ undo (filterOf size right 2 right 6 1) v2 → v4 ≡ undo (filterOf size 0 0 0 4 1) v3 → v4 ≡ undo (corners size right bottom last) v
 unfolding corners
 corners-parts size right bottom last v e f g h = rw (h, g, f, e) (simp undo-then)
 
@@ -74,12 +74,12 @@ module _ (size : Size) (sized : Sized size) where
   H = size .height .0
 
   row-is : (from l j r row : ℕ) → from ≡ j * W → l ≡ 4 * r → row ≡ 4 * j + r → line size from 1 l 1 (W - 1) ≡ rowFilters W row
-  unfolding line filterAcross rowFilters fourFilterAt
+  unfolding line filterOf rowFilters fourFilterAt
   row-is from l j r row e f g =
       rw (f, g) (each-same (W - 1) _ _ (λ i h. ap (λ ps. apply FourFilter fourFilter ps end) (row-line size (from + 1 * i) (from + 1 * i + 1) j i r (omega arith) refl (omega arith))))
 
   column-is : (from l i c column : ℕ) → from ≡ i → i < W → l ≡ c → c < 4 → column ≡ 4 * i + c → line size from W l 4 (H - 1) ≡ columnFilters W H column
-  unfolding line filterAcross columnFilters fourFilterAt
+  unfolding line filterOf columnFilters fourFilterAt
   column-is from l i c column e k f m g =
       rw (f, g) (each-same (H - 1) _ _ (λ j h. ap (λ ps. apply FourFilter fourFilter ps end) (column-line size (from + W * j) (from + W * j + W) j i c m (omega arith) refl k)))
 
@@ -99,18 +99,18 @@ module _ (size : Size) (sized : Sized size) where
       (column-is (W - 1) (3 * 1) (W - 1) 3 (4 * W - 1) refl (omega arith) refl (omega arith) (omega arith))
 
   -- the corner of square (j, i) from its row y and column x on
-  one-corner : (t l j i y x row column : ℕ) → t ≡ j * W + i → i < W → x < 3 → l ≡ 4 * y + x → row ≡ 4 * j + y → column ≡ 4 * i + x → filterIn size t l ≡ cornerFilterAt (4 * W) (cell W row column)
-  unfolding filterIn cornerFilterAt
-  one-corner t l j i y x row column e h m f g k = rw (f, g, k) (ap (λ ps. apply FourFilter fourFilter ps end) (corner-is size t j i y x e h m))
+  one-corner : (t k l j i y x row column : ℕ) → t ≡ j * W + i → i < W → x < 3 → k ≡ 4 * y + x → l ≡ 4 * y + x + 4 → row ≡ 4 * j + y → column ≡ 4 * i + x → filterOf size t k t l 1 ≡ cornerFilterAt (4 * W) (cell W row column)
+  unfolding filterOf cornerFilterAt
+  one-corner t k l j i y x row column e h m f g u v = rw (f, g, u, v) (ap (λ ps. apply FourFilter fourFilter ps end) (corner-is size t j i y x e h m))
 
   pub corners-are : (bottom last : ℕ) → bottom ≡ (H - 1) * W → last ≡ (H - 1) * W + (W - 1) → corners size (W - 1) bottom last ≡ cornerFilters W H
   unfolding corners cornerFilters
   corners-are bottom last e f =
       let wide = sized .wide in
       let tall = sized .tall in
-      four-same (one-corner 0 0 0 0 0 0 0 0 (omega arith) wide (omega arith) refl refl refl) (one-corner (W - 1) 2 0 (W - 1) 0 2 0 (4 * W - 2) (omega arith) (omega arith) (omega arith) refl refl (omega arith))
-      (one-corner bottom 8 (H - 1) 0 2 0 (4 * H - 2) 0 (omega arith) wide (omega arith) refl (omega arith) refl)
-      (one-corner last 10 (H - 1) (W - 1) 2 2 (4 * H - 2) (4 * W - 2) f (omega arith) (omega arith) refl (omega arith) (omega arith))
+      four-same (one-corner 0 0 4 0 0 0 0 0 0 (omega arith) wide (omega arith) refl refl refl refl) (one-corner (W - 1) 2 6 0 (W - 1) 0 2 0 (4 * W - 2) (omega arith) (omega arith) (omega arith) refl refl refl (omega arith))
+      (one-corner bottom 8 12 (H - 1) 0 2 0 (4 * H - 2) 0 (omega arith) wide (omega arith) refl refl (omega arith) refl)
+      (one-corner last 10 14 (H - 1) (W - 1) 2 2 (4 * H - 2) (4 * W - 2) f (omega arith) (omega arith) refl refl (omega arith) (omega arith))
 
   -- the filters, one stage after another; the bottom row of squares begins with square `bottom` and ends with square `last`
   pub filters-parts : {bottom last : ℕ} → bottom ≡ (H - 1) * W → last ≡ (H - 1) * W + (W - 1) → (v : List ℤ) {v1 v2 v3 v4 : List ℤ} → v1 ≡ undo (corners size (W - 1) bottom last) v

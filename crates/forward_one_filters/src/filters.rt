@@ -7,7 +7,6 @@ ghost use Rattle.picture.specs.Sizes.{macroblocks};
 ghost use Rattle.forward_one_grid.specs.Held.{numbers, over, Held};
 ghost use Rattle.forward_one_filters.specs.Edges.{line, edges, corners};
 ghost use Rattle.forward_one_filters.specs.Windows.{filtersOfRow};
-use crate::uses::undo_corner_filter;
 use crate::uses::undo_four_filter;
 use crate::windows::undo_group;
 use forward_one_grid::group;
@@ -35,7 +34,7 @@ fn undo_line(
     while i > 0 {
         i -= 1;
         t -= pace;
-        undo_four_filter(size, dc, low, t, t + pace, l, step);
+        undo_four_filter(size, dc, low, t, l + 2 * step, t + pace, l, step);
     }
 }
 
@@ -78,10 +77,10 @@ fn undo_corners(
     ensures { λ r. ⌜ numbers size (now (dc .exit)) (now (low .exit)) ≡
         undo (corners size right bottom last) (numbers size (now (dc .entry)) (now (low .entry))) ⌝ }
 {
-    undo_corner_filter(size, dc, low, last, 10);
-    undo_corner_filter(size, dc, low, bottom, 8);
-    undo_corner_filter(size, dc, low, right, 2);
-    undo_corner_filter(size, dc, low, 0, 0);
+    undo_four_filter(size, dc, low, last, 10, last, 14, 1);
+    undo_four_filter(size, dc, low, bottom, 8, bottom, 12, 1);
+    undo_four_filter(size, dc, low, right, 2, right, 6, 1);
+    undo_four_filter(size, dc, low, 0, 0, 0, 4, 1);
 }
 
 // The square filters between the squares in rows j, which begins with square t, and j + 1.

@@ -6,10 +6,9 @@ ghost use Rattle.lifting.specs.AnyUse.{anyUse};
 ghost use Rattle.picture.specs.Level.{squareFilters, filtersIf, filters as filterProgram};
 ghost use Rattle.picture.specs.Sizes.{macroblocks};
 ghost use Rattle.forward_one_grid.specs.Held.{numbers, over, Held};
-ghost use Rattle.forward_one_filters.specs.Edges.{filterAcross, filterIn, line, edges, corners};
+ghost use Rattle.forward_one_filters.specs.Edges.{filterOf, line, edges, corners};
 ghost use Rattle.forward_one_filters.specs.Windows.{filterOn, filtersOfRow};
-use forward_one_grid::get_across;
-use forward_one_grid::get_corner;
+use forward_one_grid::get_pairs;
 use forward_one_grid::window::get_window;
 use four_filter::unfiltered_wraps;
 use picture::size::Size;
@@ -30,23 +29,16 @@ fn four_wraps(
     dc: &[i32],
     low: &[i32],
     t: usize,
+    k: usize,
     u: usize,
     l: usize,
     step: usize,
 ) -> bool
     requires { ⌜ Held size (now dc) (now low) ⌝ }
-    requires { ⌜ (t < macroblocks size) × (u < macroblocks size) × (l + 3 * step < 16) ⌝ }
-    ensures { λ r. ⌜ r ≡ anyUse undoWraps (filterAcross size t u l step) (numbers size (now (dc .entry)) (now (low .entry))) ⌝ }
+    requires { ⌜ (t < macroblocks size) × (u < macroblocks size) × (k + step < 16) × (l + step < 16) ⌝ }
+    ensures { λ r. ⌜ r ≡ anyUse undoWraps (filterOf size t k u l step) (numbers size (now (dc .entry)) (now (low .entry))) ⌝ }
 {
-    unfiltered_wraps(get_across(size, dc, low, t, u, l, step))
-}
-
-fn corner_wraps(size: Size, dc: &[i32], low: &[i32], t: usize, l: usize) -> bool
-    requires { ⌜ Held size (now dc) (now low) ⌝ }
-    requires { ⌜ (t < macroblocks size) × (l + 5 < 16) ⌝ }
-    ensures { λ r. ⌜ r ≡ anyUse undoWraps (filterIn size t l) (numbers size (now (dc .entry)) (now (low .entry))) ⌝ }
-{
-    unfiltered_wraps(get_corner(size, dc, low, t, l))
+    unfiltered_wraps(get_pairs(size, dc, low, t, k, u, l, step))
 }
 
 // ---- uses in a line
@@ -68,7 +60,7 @@ fn line_wraps(
 {
     let mut t = from;
     for i in 0..n {
-        if four_wraps(size, dc, low, t, t + pace, l, step) {
+        if four_wraps(size, dc, low, t, l + 2 * step, t + pace, l, step) {
             return true;
         }
         t += pace;
@@ -128,10 +120,10 @@ fn corners_wrap(
     requires { ⌜ (right < macroblocks size) × (bottom < macroblocks size) × (last < macroblocks size) ⌝ }
     ensures { λ r. ⌜ r ≡ anyUse undoWraps (corners size right bottom last) (numbers size (now (dc .entry)) (now (low .entry))) ⌝ }
 {
-    let top_left = corner_wraps(size, dc, low, 0, 0);
-    let top_right = corner_wraps(size, dc, low, right, 2);
-    let bottom_left = corner_wraps(size, dc, low, bottom, 8);
-    let bottom_right = corner_wraps(size, dc, low, last, 10);
+    let top_left = four_wraps(size, dc, low, 0, 0, 0, 4, 1);
+    let top_right = four_wraps(size, dc, low, right, 2, right, 6, 1);
+    let bottom_left = four_wraps(size, dc, low, bottom, 8, bottom, 12, 1);
+    let bottom_right = four_wraps(size, dc, low, last, 10, last, 14, 1);
     top_left | top_right | bottom_left | bottom_right
 }
 

@@ -1,4 +1,5 @@
--- Four numbers read or stored one after another are a line across an edge, or a corner of a square, and these are strips and corners of the grid; four lines are a window.
+-- Four numbers read or stored one after another are two of one square and two of another. Across an edge these are a strip of the grid, in one square a corner of it;
+-- four strips are a window.
 use Prim.Native.Nat.{ℕ, _+_, _*_, _/_, _%_, _≤_, _<_}
 use mathlib.Core.Path.{_≡_, refl, _∙_, ap}
 use mathlib.Core.List.{List, [], _∷_}
@@ -17,7 +18,7 @@ use Rattle.picture.specs.Planes.{place}
 use Rattle.picture.specs.Sizes.{macroblocks, Sized}
 use Rattle.picture.proofs.CheckLaws.{few}
 use Rattle.grid.proofs.Squares.{square-read, square-stored}
-use Rattle.forward_one_grid.specs.Held.{across, cornerOf}
+use Rattle.forward_one_grid.specs.Held.{pairs}
 
 -- ---- four reads, and four stores
 
@@ -39,7 +40,7 @@ pub fours-stored : {v v1 v2 v3 v4 : List ℤ} {p q r s : ℕ} {a b c d : ℤ} �
 unfolding put
 fours-stored e f g h = h .is ∙ rw (g .is, f .is, e .is, back (e .fits), back (f .fits), back (g .fits), back (h .fits))
 
--- ---- lines across an edge as strips
+-- ---- lines across an edge as strips, and corners
 
 fours : {a b c d a′ b′ c′ d′ : ℕ} → a ≡ a′ → b ≡ b′ → c ≡ c′ → d ≡ d′ → a ∷ b ∷ c ∷ d ∷ [] ≡ a′ ∷ b′ ∷ c′ ∷ d′ ∷ []
 fours e f g h = rw (e, f, g, h)
@@ -53,28 +54,28 @@ module _ (size : Size) (t u j i : ℕ) where
   W = size .width .0
 
   -- along row r of squares (j, i) and (j, i + 1)
-  pub row-line : (r : ℕ) → t ≡ j * W + i → u ≡ t + 1 → i + 1 < W → across size t u (4 * r) 1 ≡ strip 1 (cell W (4 * j + r) (4 * i + 2))
+  pub row-line : (r : ℕ) → t ≡ j * W + i → u ≡ t + 1 → i + 1 < W → pairs size t (4 * r + 2) u (4 * r) 1 ≡ strip 1 (cell W (4 * j + r) (4 * i + 2))
   row-line r e f h =
-      fours (place-is t j i (4 * r + 2 * 1) r 2 e (omega arith) (omega arith) (omega arith))
-      (place-is t j i (4 * r + 3 * 1) r 3 e (omega arith) (omega arith) (omega arith) ∙ omega arith)
+      fours (place-is t j i (4 * r + 2) r 2 e (omega arith) (omega arith) (omega arith))
+      (place-is t j i (4 * r + 2 + 1) r 3 e (omega arith) (omega arith) (omega arith) ∙ omega arith)
       (place-is u j (i + 1) (4 * r) r 0 (omega arith) h (omega arith) (omega arith) ∙ omega arith)
       (place-is u j (i + 1) (4 * r + 1) r 1 (omega arith) h (omega arith) (omega arith) ∙ omega arith)
 
   -- down column c of squares (j, i) and (j + 1, i)
-  pub column-line : (c : ℕ) → c < 4 → t ≡ j * W + i → u ≡ t + W → i < W → across size t u c 4 ≡ strip (4 * W) (cell W (4 * j + 2) (4 * i + c))
+  pub column-line : (c : ℕ) → c < 4 → t ≡ j * W + i → u ≡ t + W → i < W → pairs size t (c + 8) u c 4 ≡ strip (4 * W) (cell W (4 * j + 2) (4 * i + c))
   column-line c l e f h =
-      fours (place-is t j i (c + 2 * 4) 2 c e h (omega arith) (omega arith))
-      (place-is t j i (c + 3 * 4) 3 c e h (omega arith) (omega arith) ∙ omega arith)
+      fours (place-is t j i (c + 8) 2 c e h (omega arith) (omega arith))
+      (place-is t j i (c + 8 + 4) 3 c e h (omega arith) (omega arith) ∙ omega arith)
       (place-is u (j + 1) i c 0 c (omega arith) h (omega arith) (omega arith) ∙ omega arith)
       (place-is u (j + 1) i (c + 4) 1 c (omega arith) h (omega arith) (omega arith) ∙ omega arith)
 
 -- from row y and column x of square (j, i) on
-pub corner-is : (size : Size) (t j i y x : ℕ) → t ≡ j * size .width .0 + i → i < size .width .0 → x < 3 → cornerOf size t (4 * y + x) ≡ cornerAt (4 * size .width .0) (cell (size .width .0) (4 * j + y) (4 * i + x))
+pub corner-is : (size : Size) (t j i y x : ℕ) → t ≡ j * size .width .0 + i → i < size .width .0 → x < 3 → pairs size t (4 * y + x) t (4 * y + x + 4) 1 ≡ cornerAt (4 * size .width .0) (cell (size .width .0) (4 * j + y) (4 * i + x))
 corner-is size t j i y x e h l =
     fours (place-is t j i (4 * y + x) y x e h (omega arith) (omega arith))
     (place-is t j i (4 * y + x + 1) y (x + 1) e h (omega arith) (omega arith) ∙ omega arith)
     (place-is t j i (4 * y + x + 4) (y + 1) x e h (omega arith) (omega arith) ∙ omega arith)
-    (place-is t j i (4 * y + x + 5) (y + 1) (x + 1) e h (omega arith) (omega arith) ∙ omega arith)
+    (place-is t j i (4 * y + x + 4 + 1) (y + 1) (x + 1) e h (omega arith) (omega arith) ∙ omega arith)
 
 -- ---- windows
 
@@ -104,8 +105,8 @@ module _ {size : Size} {j i t u : ℕ} (at : Corner size j i t u) where
   abbrev from : ℕ
   from = cell (size .width .0) (4 * j + 2) (4 * i + 2)
 
-  lines : (across size t (t + 1) 8 1 ≡ strip 1 from) × (across size t (t + 1) 12 1 ≡ strip 1 (from + w))
-      × (across size u (u + 1) 0 1 ≡ strip 1 (from + w + w)) × (across size u (u + 1) 4 1 ≡ strip 1 (from + w + w + w))
+  lines : (pairs size t 10 (t + 1) 8 1 ≡ strip 1 from) × (pairs size t 14 (t + 1) 12 1 ≡ strip 1 (from + w))
+      × (pairs size u 2 (u + 1) 0 1 ≡ strip 1 (from + w + w)) × (pairs size u 6 (u + 1) 4 1 ≡ strip 1 (from + w + w + w))
   lines = (
     row-line size t (t + 1) j i 2 (at .upper) refl (at .beside),
     row-line size t (t + 1) j i 3 (at .upper) refl (at .beside) ∙ ap (strip 1) (omega arith),
@@ -113,16 +114,16 @@ module _ {size : Size} {j i t u : ℕ} (at : Corner size j i t u) where
     row-line size u (u + 1) (j + 1) i 1 (omega (arith, at .upper, at .lower)) refl (at .beside) ∙ ap (strip 1) (omega arith),
   )
 
-  pub window-read : (v p q r s : List ℤ) → four p ≡ get (across size t (t + 1) 8 1) v → four q ≡ get (across size t (t + 1) 12 1) v
-      → four r ≡ get (across size u (u + 1) 0 1) v → four s ≡ get (across size u (u + 1) 4 1) v → flat (p ∷ q ∷ r ∷ s ∷ []) ≡ get (square w from) v
+  pub window-read : (v p q r s : List ℤ) → four p ≡ get (pairs size t 10 (t + 1) 8 1) v → four q ≡ get (pairs size t 14 (t + 1) 12 1) v
+      → four r ≡ get (pairs size u 2 (u + 1) 0 1) v → four s ≡ get (pairs size u 6 (u + 1) 4 1) v → flat (p ∷ q ∷ r ∷ s ∷ []) ≡ get (square w from) v
   window-read v p q r s a b c d = square-read v w from p q r s (a ∙ to (lines .0)) (b ∙ to (lines .1)) (c ∙ to (lines .2)) (d ∙ to (lines .3))
     where
       to : {x y : List ℕ} → x ≡ y → get x v ≡ get y v
       to e = ap (λ ps. get ps v) e
 
-  pub window-stored : (m : List (List ℤ)) (v : List ℤ) {v1 v2 v3 v4 : List ℤ} → v1 ≡ put (across size t (t + 1) 8 1) (four (getD m 0 [])) v
-      → v2 ≡ put (across size t (t + 1) 12 1) (four (getD m 1 [])) v1 → v3 ≡ put (across size u (u + 1) 0 1) (four (getD m 2 [])) v2
-      → v4 ≡ put (across size u (u + 1) 4 1) (four (getD m 3 [])) v3 → v4 ≡ put (square w from) (flat m) v
+  pub window-stored : (m : List (List ℤ)) (v : List ℤ) {v1 v2 v3 v4 : List ℤ} → v1 ≡ put (pairs size t 10 (t + 1) 8 1) (four (getD m 0 [])) v
+      → v2 ≡ put (pairs size t 14 (t + 1) 12 1) (four (getD m 1 [])) v1 → v3 ≡ put (pairs size u 2 (u + 1) 0 1) (four (getD m 2 [])) v2
+      → v4 ≡ put (pairs size u 6 (u + 1) 4 1) (four (getD m 3 [])) v3 → v4 ≡ put (square w from) (flat m) v
   window-stored m v {v1} {v2} {v3} a b c d =
       square-stored v w from m (a ∙ to (lines .0) _ v) (b ∙ to (lines .1) _ v1) (c ∙ to (lines .2) _ v2) (d ∙ to (lines .3) _ v3)
     where

@@ -24,18 +24,11 @@ pub record Held (size : Size) (dc low : List ℤ) : Type 0 where
   pub of-dc : length dc ≡ macroblocks size
   pub of-low : length low ≡ 15 * macroblocks size
 
--- four numbers in a line across the edge between squares t and u: in each square a line starts at coefficient l and goes on by `step`,
--- 1 along a row and 4 down a column, and the four are the last two of it in t and the first two in u
-abbrev pub across : Size → ℕ → ℕ → ℕ → ℕ → List ℕ
-across size t u l step =
+-- two numbers of square t, from its coefficient k on, and two of square u, from its coefficient l on, in each `step` apart
+abbrev pub pairs : Size → ℕ → ℕ → ℕ → ℕ → ℕ → List ℕ
+pairs size t k u l step =
     let W : ℕ = size .width .0 in
-    place W t (l + 2 * step) ∷ place W t (l + 3 * step) ∷ place W u l ∷ place W u (l + step) ∷ []
-
--- the corner of square t that begins at its coefficient l, row by row
-abbrev pub cornerOf : Size → ℕ → ℕ → List ℕ
-cornerOf size t l =
-    let W : ℕ = size .width .0 in
-    place W t l ∷ place W t (l + 1) ∷ place W t (l + 4) ∷ place W t (l + 5) ∷ []
+    place W t k ∷ place W t (k + step) ∷ place W u l ∷ place W u (l + step) ∷ []
 
 -- window (j, i) lies over the corner of squares (j, i), (j, i + 1), (j + 1, i) and (j + 1, i + 1): the place of its first number, and all its places
 abbrev pub corner : Size → ℕ → ℕ → ℕ

@@ -1,4 +1,4 @@
-// Level one's grid where it lies, in DC and low-pass: its numbers read and stored by square and coefficient, by fours across an edge, and by corners.
+// Level one's grid where it lies, in DC and low-pass: its numbers read and stored by square and coefficient, and by two and two.
 ghost use mathlib.Core.Path.{_≡_};
 ghost use Prim.Native.Nat.{_+_, _*_, _<_, _≤_};
 ghost use lib.ListN.{set};
@@ -6,7 +6,7 @@ ghost use Rattle.lifting.specs.Program.{at, get, put};
 ghost use Rattle.figures.specs.Block.{four};
 ghost use Rattle.picture.specs.Planes.{place};
 ghost use Rattle.picture.specs.Sizes.{macroblocks};
-ghost use Rattle.forward_one_grid.specs.Held.{numbers, Held, across, cornerOf};
+ghost use Rattle.forward_one_grid.specs.Held.{numbers, Held, pairs};
 use picture::size::Size;
 
 pub mod window; // window.rt: windows over four squares
@@ -46,72 +46,48 @@ fn put_number(size: Size, dc: &mut [i32], low: &mut [i32], t: usize, k: usize, x
     low[15 * t + (k - 1)] = x;
 }
 
-// Four numbers in a line across the edge between squares t and u. In each square the line starts at coefficient l and goes on by `step`:
-// 1 along a row, 4 down a column.
-pub fn get_across(
+// Two numbers of square t, from its coefficient k on, and two of square u, from its coefficient l on, in each `step` apart: 1 along a row, 4 down a column.
+// They are four in a line across the edge between t and u, or, where t is u, a corner of the square.
+pub fn get_pairs(
     size: Size,
     dc: &[i32],
     low: &[i32],
     t: usize,
+    k: usize,
     u: usize,
     l: usize,
     step: usize,
 ) -> [i32; 4]
     requires { ⌜ Held size (now dc) (now low) ⌝ }
-    requires { ⌜ (t < macroblocks size) × (u < macroblocks size) × (l + 3 * step < 16) ⌝ }
-    ensures { λ v. ⌜ four v ≡ get (across size t u l step) (numbers size (now (dc .entry)) (now (low .entry))) ⌝ }
+    requires { ⌜ (t < macroblocks size) × (u < macroblocks size) × (k + step < 16) × (l + step < 16) ⌝ }
+    ensures { λ v. ⌜ four v ≡ get (pairs size t k u l step) (numbers size (now (dc .entry)) (now (low .entry))) ⌝ }
 {
     [
-        number(size, dc, low, t, l + 2 * step),
-        number(size, dc, low, t, l + 3 * step),
+        number(size, dc, low, t, k),
+        number(size, dc, low, t, k + step),
         number(size, dc, low, u, l),
         number(size, dc, low, u, l + step),
     ]
 }
 
-pub fn put_across(
+pub fn put_pairs(
     size: Size,
     dc: &mut [i32],
     low: &mut [i32],
     t: usize,
+    k: usize,
     u: usize,
     l: usize,
     step: usize,
     v: [i32; 4],
 )
     requires { ⌜ Held size (now dc) (now low) ⌝ }
-    requires { ⌜ (t < macroblocks size) × (u < macroblocks size) × (l + 3 * step < 16) ⌝ }
+    requires { ⌜ (t < macroblocks size) × (u < macroblocks size) × (k + step < 16) × (l + step < 16) ⌝ }
     ensures { λ r. ⌜ numbers size (now (dc .exit)) (now (low .exit)) ≡
-        put (across size t u l step) (four v) (numbers size (now (dc .entry)) (now (low .entry))) ⌝ }
+        put (pairs size t k u l step) (four v) (numbers size (now (dc .entry)) (now (low .entry))) ⌝ }
 {
-    put_number(size, dc, low, t, l + 2 * step, v[0]);
-    put_number(size, dc, low, t, l + 3 * step, v[1]);
+    put_number(size, dc, low, t, k, v[0]);
+    put_number(size, dc, low, t, k + step, v[1]);
     put_number(size, dc, low, u, l, v[2]);
     put_number(size, dc, low, u, l + step, v[3]);
-}
-
-// The corner of square t that begins at its coefficient l: two numbers of a row, and the two below them.
-pub fn get_corner(size: Size, dc: &[i32], low: &[i32], t: usize, l: usize) -> [i32; 4]
-    requires { ⌜ Held size (now dc) (now low) ⌝ }
-    requires { ⌜ (t < macroblocks size) × (l + 5 < 16) ⌝ }
-    ensures { λ v. ⌜ four v ≡ get (cornerOf size t l) (numbers size (now (dc .entry)) (now (low .entry))) ⌝ }
-{
-    [
-        number(size, dc, low, t, l),
-        number(size, dc, low, t, l + 1),
-        number(size, dc, low, t, l + 4),
-        number(size, dc, low, t, l + 5),
-    ]
-}
-
-pub fn put_corner(size: Size, dc: &mut [i32], low: &mut [i32], t: usize, l: usize, v: [i32; 4])
-    requires { ⌜ Held size (now dc) (now low) ⌝ }
-    requires { ⌜ (t < macroblocks size) × (l + 5 < 16) ⌝ }
-    ensures { λ r. ⌜ numbers size (now (dc .exit)) (now (low .exit)) ≡
-        put (cornerOf size t l) (four v) (numbers size (now (dc .entry)) (now (low .entry))) ⌝ }
-{
-    put_number(size, dc, low, t, l, v[0]);
-    put_number(size, dc, low, t, l + 1, v[1]);
-    put_number(size, dc, low, t, l + 4, v[2]);
-    put_number(size, dc, low, t, l + 5, v[3]);
 }

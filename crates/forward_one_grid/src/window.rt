@@ -4,8 +4,8 @@ ghost use Prim.Native.Nat.{_+_, _*_, _<_};
 ghost use Rattle.lifting.specs.Program.{get, put};
 ghost use Rattle.figures.specs.Block.{flat};
 ghost use Rattle.forward_one_grid.specs.Held.{numbers, Held, window};
-use crate::get_across;
-use crate::put_across;
+use crate::get_pairs;
+use crate::put_pairs;
 use picture::size::Size;
 
 // Of squares (j, i), (j, i + 1), (j + 1, i) and (j + 1, i + 1), of which the first is square t.
@@ -24,10 +24,10 @@ pub fn get_window(
     let width = size.width.0 as usize;
     let u = t + width;
     [
-        get_across(size, dc, low, t, t + 1, 8, 1),
-        get_across(size, dc, low, t, t + 1, 12, 1),
-        get_across(size, dc, low, u, u + 1, 0, 1),
-        get_across(size, dc, low, u, u + 1, 4, 1),
+        get_pairs(size, dc, low, t, 10, t + 1, 8, 1),
+        get_pairs(size, dc, low, t, 14, t + 1, 12, 1),
+        get_pairs(size, dc, low, u, 2, u + 1, 0, 1),
+        get_pairs(size, dc, low, u, 6, u + 1, 4, 1),
     ]
 }
 
@@ -46,8 +46,8 @@ pub fn put_window(
 {
     let width = size.width.0 as usize;
     let u = t + width;
-    put_across(size, dc, low, t, t + 1, 8, 1, b[0]);
-    put_across(size, dc, low, t, t + 1, 12, 1, b[1]);
-    put_across(size, dc, low, u, u + 1, 0, 1, b[2]);
-    put_across(size, dc, low, u, u + 1, 4, 1, b[3]);
+    put_pairs(size, dc, low, t, 10, t + 1, 8, 1, b[0]);
+    put_pairs(size, dc, low, t, 14, t + 1, 12, 1, b[1]);
+    put_pairs(size, dc, low, u, 2, u + 1, 0, 1, b[2]);
+    put_pairs(size, dc, low, u, 6, u + 1, 4, 1, b[3]);
 }

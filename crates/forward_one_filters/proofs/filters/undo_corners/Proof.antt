@@ -11,7 +11,7 @@ returns c =
     let d2 = d3 .before .before .before .before .before in
     let d1 = d2 .before .before .before .before .before in
     let a = d1 .before .before .before .args in
-    corners-parts (a .size) (a .right) (a .bottom) (a .last) _ (d1 .undo-corner-filter .ensures) (d2 .undo-corner-filter2 .ensures) (d3 .undo-corner-filter3 .ensures) (d4 .undo-corner-filter4 .ensures)
+    corners-parts (a .size) (a .right) (a .bottom) (a .last) _ (d1 .undo-four-filter .ensures) (d2 .undo-four-filter2 .ensures) (d3 .undo-four-filter3 .ensures) (d4 .undo-four-filter4 .ensures)
 
 pub undo-corners-spec : {M : Type 1} → statement M
 undo-corners-spec =

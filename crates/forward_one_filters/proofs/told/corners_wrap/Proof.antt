@@ -12,7 +12,7 @@ returns c4 =
     let c3 = c4 .before in
     let c2 = c3 .before in
     let c1 = c2 .before in
-    four-told undoWraps _ _ _ _ _ (c1 .corner-wraps .ensures) (c2 .corner-wraps2 .ensures) (c3 .corner-wraps3 .ensures) (c4 .corner-wraps4 .ensures)
+    four-told undoWraps _ _ _ _ _ (c1 .four-wraps .ensures) (c2 .four-wraps2 .ensures) (c3 .four-wraps3 .ensures) (c4 .four-wraps4 .ensures)
 
 pub corners-wrap-spec : {M : Type 1} → statement M
 corners-wrap-spec = tie.close (tie.spec (λ c κs. search needs) (λ c κs. search needs) (λ c κs. search needs) (λ c κs. search needs) returns)

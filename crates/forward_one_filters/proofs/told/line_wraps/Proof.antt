@@ -10,14 +10,14 @@ use Rattle.picture.specs.declared.size.Size.{Size}
 use Rattle.picture.specs.Sizes.{macroblocks}
 use Rattle.picture.proofs.CheckLaws.{few-macroblocks}
 use Rattle.forward_one_grid.specs.Held.{numbers}
-use Rattle.forward_one_filters.specs.Edges.{filterAcross, line}
+use Rattle.forward_one_filters.specs.Edges.{filterOf, line}
 use Rattle.forward_one_filters.proofs.Edges.{step-on}
 use Rattle.forward_one_filters.proofs.told.line_wraps.Statement.{statement}
 use Rattle.forward_one_filters.proofs.told.line_wraps.Tie as tie
 
 -- use i of the line
 abbrev use-of : Size → ℕ → ℕ → ℕ → ℕ → ℕ → Program
-use-of size from pace l step i = filterAcross size (from + pace * i) (from + pace * i + pace) l step
+use-of size from pace l step i = filterOf size (from + pace * i) (l + 2 * step) (from + pace * i + pace) l step
 
 abbrev Inv-loop : tie.InvT-loop
 Inv-loop size dc low from pace l step n t₀ i₀ t i = (t ≡ from + pace * i) × Walked undoWraps (use-of size from pace l step) (numbers size dc low) i
@@ -35,14 +35,14 @@ inside c =
     (omega (arith, on .0, s .pre .1 .0), few-macroblocks (s .pre .0 .sized), on .1)
 
 asked : tie.Need-four-wraps-requires Inv-loop μ-loop
-asked c κs = let p = c .before .before .pre in (p .0, (omega (arith, inside c .0), inside c .0, p .1 .1))
+asked c κs = let p = c .before .before .pre in (p .0, (omega (arith, inside c .0), inside c .0, omega (arith, p .1 .1), omega (arith, p .1 .1)))
 
 told : (c : tie.After-four-wraps Inv-loop μ-loop) → let l = c .before .before in let a = l .before .args in
     c .four-wraps .result ≡ anyUse undoWraps (use-of (a .size) (a .from) (a .pace) (a .l) (a .step) (l .loop .i)) (numbers (a .size) (a .dc .now) (a .low .now))
 told c =
     let l = c .before .before in
     let a = l .before .args in
-    c .four-wraps .ensures ∙ ap (λ (t : ℕ). anyUse undoWraps (filterAcross (a .size) t (t + a .pace) (a .l) (a .step)) (numbers (a .size) (a .dc .now) (a .low .now))) (l .loop .inv .0)
+    c .four-wraps .ensures ∙ ap (λ (t : ℕ). anyUse undoWraps (filterOf (a .size) t (a .l + 2 * a .step) (t + a .pace) (a .l) (a .step)) (numbers (a .size) (a .dc .now) (a .low .now))) (l .loop .inv .0)
 
 returns : tie.Need-returns Inv-loop μ-loop
 unfolding line
@@ -58,5 +58,5 @@ returns-2 c = walk-ends _ (c .before .loop .inv .1) (omega arith)
 pub line-wraps-spec : {M : Type 1} → statement M
 line-wraps-spec =
     tie.close
-    (tie.spec Inv-loop μ-loop (λ c. (omega arith, walk-begins (omega arith))) (λ c. omega (arith, inside c)) asked returns
+    (tie.spec Inv-loop μ-loop (λ c. (omega arith, walk-begins (omega arith))) (λ c. omega (arith, c .before .before .pre .1)) (λ c. omega (arith, c .before .before .pre .1)) (λ c. omega (arith, inside c)) asked returns
     (λ c. omega (arith, inside (c .before .before))) (λ c. omega arith) (λ c. omega arith) loop-again returns-2)

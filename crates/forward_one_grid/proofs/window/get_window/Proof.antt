@@ -15,17 +15,17 @@ returns c =
     let c3 = c .before in
     let c2 = c3 .before in
     let c1 = c2 .before in
-    window-read (at (c1 .before .before)) _ _ _ _ _ (c1 .get-across .ensures) (c2 .get-across2 .ensures) (c3 .get-across3 .ensures) (c .get-across4 .ensures)
+    window-read (at (c1 .before .before)) _ _ _ _ _ (c1 .get-pairs .ensures) (c2 .get-pairs2 .ensures) (c3 .get-pairs3 .ensures) (c .get-pairs4 .ensures)
 
 pub get-window-spec : {M : Type 1} → statement M
 get-window-spec =
     tie.close
     (tie.spec (λ c. search needs) (λ c. omega (arith, at (c .before))) (λ c. omega (arith, at (c .before)))
-    (λ c κs. let s = c .before in let h = at s in (s .pre .0, (omega arith, omega arith, omega arith)))
+    (λ c κs. let s = c .before in let h = at s in (s .pre .0, (omega arith, omega arith, omega arith, omega arith)))
     (λ c. omega (arith, at (c .before .before)))
-    (λ c κs. let s = c .before .before in let h = at s in (s .pre .0, (omega arith, omega arith, omega arith)))
+    (λ c κs. let s = c .before .before in let h = at s in (s .pre .0, (omega arith, omega arith, omega arith, omega arith)))
     (λ c. omega (arith, at (c .before .before .before)))
-    (λ c κs. let s = c .before .before .before in let h = at s in (s .pre .0, (omega arith, omega arith, omega arith)))
+    (λ c κs. let s = c .before .before .before in let h = at s in (s .pre .0, (omega arith, omega arith, omega arith, omega arith)))
     (λ c. omega (arith, at (c .before .before .before .before)))
-    (λ c κs. let s = c .before .before .before .before in let h = at s in (s .pre .0, (omega arith, omega arith, omega arith)))
+    (λ c κs. let s = c .before .before .before .before in let h = at s in (s .pre .0, (omega arith, omega arith, omega arith, omega arith)))
     returns)

@@ -1,8 +1,8 @@
 -- Four stores, one after another.
 use borrow.Author.Needs.{needs}
 use Rattle.forward_one_grid.proofs.Lines.{fours-stored}
-use Rattle.forward_one_grid.proofs.put_corner.Statement.{statement}
-use Rattle.forward_one_grid.proofs.put_corner.Tie as tie
+use Rattle.forward_one_grid.proofs.put_pairs.Statement.{statement}
+use Rattle.forward_one_grid.proofs.put_pairs.Tie as tie
 
 returns : tie.Need-returns
 returns c =
@@ -13,8 +13,8 @@ returns c =
     fours-stored (record { fits = d1 .before .put-number-arg3 .given; is = d1 .put-number .ensures }) (record { fits = d2 .before .put-number-arg6 .given; is = d2 .put-number2 .ensures })
     (record { fits = d3 .before .put-number-arg9 .given; is = d3 .put-number3 .ensures }) (record { fits = d4 .before .put-number-arg12 .given; is = d4 .put-number4 .ensures })
 
-pub put-corner-spec : {M : Type 1} → statement M
-put-corner-spec =
+pub put-pairs-spec : {M : Type 1} → statement M
+put-pairs-spec =
     tie.close
-    (tie.spec (λ c. search needs) (λ c κs. search needs) (λ c. search needs) (λ c. search needs) (λ c κs. search needs) (λ c. search needs) (λ c. search needs) (λ c κs. search needs)
+    (tie.spec (λ c. search needs) (λ c κs. search needs) (λ c. search needs) (λ c. search needs) (λ c κs. search needs) (λ c. search needs) (λ c κs. search needs)
     (λ c. search needs) (λ c. search needs) (λ c κs. search needs) (λ c. search needs) (λ c. search needs) returns)
