@@ -22,7 +22,8 @@ use Rattle.picture.proofs.CheckLaws.{few-macroblocks}
 use Rattle.grid.proofs.Rows.{row-inside}
 use Rattle.forward_kernel.proofs.Stores.{below-four}
 use Rattle.forward_two_edges.specs.Unfiltered.{unfiltered, Edge, First}
-use Rattle.forward_two_edges.specs.Strip.{Holds, Kept, Given, Rows, Spread, unfilteredAt}
+use Rattle.forward_two_edges.specs.Strip.{Holds, Kept, Given, Rows, Spread, Columns, unfilteredAt}
+use Rattle.forward_two_edges.proofs.Alone.{first-edge}
 use Rattle.forward_two_edges.proofs.Numbers.{cell-low, at-four, row-at, column-at, corner-at}
 
 -- ---- numbers along a line
@@ -73,6 +74,34 @@ spread-more samples step a i far n b j {old} {mid} {new} some here e p q =
   where
     e' : (m : ℕ) → j + m * far ≡ i + (4 * n + m) * far
     e' m = rw (add-mul (4 * n) m far) (omega arith)
+
+-- ---- numbers down two columns
+
+pub columns-none : (i : ℕ) (f : ℕ → ℕ → ℤ) (v : List ℤ) → Columns i 0 f v v
+columns-none i f v = record { len = refl; own = λ b k h l. absurd (omega arith); others = λ j h. refl }
+
+-- number j of the unfiltered fours in column b, of which the first begins at place a
+abbrev pub foursDown : List ℤ → ℕ → ℕ → ℕ → ℕ → ℤ
+foursDown samples w a b j = at (unfilteredAt samples w (a + b + 4 * w * (j / 4))) (j % 4)
+
+-- one four more in each
+pub columns-more : (samples : List ℤ) (w a i n p q j k : ℕ) {old mid one new : List ℤ} → p ≡ a + 4 * w * n → q ≡ a + 1 + 4 * w * n → j ≡ i + 288 * n → k ≡ i + 1 + 288 * n
+    → Columns i (4 * n) (foursDown samples w a) old mid → Spread j 72 4 (at (unfilteredAt samples w p)) mid one → Spread k 72 4 (at (unfilteredAt samples w q)) one new
+    → Columns i (4 * (n + 1)) (foursDown samples w a) old new
+columns-more samples w a i n p q j k {old} {mid} {one} {new} here there e f c d g =
+    record {
+      len = g .len ∙ d .len ∙ c .len;
+      own = λ b m hb hm. by-cases (decLt m (4 * n))
+          (λ l. g .others (i + b + m * 72) (λ u o y. absurd (omega (arith, y))) ∙ d .others (i + b + m * 72) (λ u o y. absurd (omega (arith, y))) ∙ c .own b m hb l)
+          (λ l. by-cases (ℕ-discrete b 0)
+          (λ z. g .others (i + b + m * 72) (λ u o y. absurd (omega (arith, y, z))) ∙ ap (at one) (omega (arith, z, l)) ∙ d .own (m - 4 * n) (omega (arith, l)) ∙ same b m p (omega (arith, z)) hm l)
+          (λ z. ap (at new) (omega (arith, z, l)) ∙ g .own (m - 4 * n) (omega (arith, l)) ∙ same b m q (omega (arith, z)) hm l));
+      others = λ m h. g .others m (λ u o y. h 1 (4 * n + u) (omega arith) (omega arith) (omega (arith, y)))
+          ∙ d .others m (λ u o y. h 0 (4 * n + u) (omega arith) (omega arith) (omega (arith, y))) ∙ c .others m (λ b u hb hu. h b u hb (omega arith));
+    }
+  where
+    same : (b m r : ℕ) → r ≡ a + b + 4 * w * n → m < 4 * (n + 1) → ¬ (m < 4 * n) → at (unfilteredAt samples w r) (m - 4 * n) ≡ foursDown samples w a b m
+    same b m r x hm l = ap₂ (λ (o u : ℕ). at (unfilteredAt samples w o) u) (x ∙ ap (λ (o : ℕ). a + b + 4 * w * o) (omega (arith, l))) (omega (arith, l))
 
 -- ---- rows and columns that join
 
@@ -174,23 +203,22 @@ module _ (size : Size) (samples : List ℤ) (wide : 0 < size .width .0) (tall : 
     record { len = d .len; same = λ z x h o. d .others (72 * z + x) (λ k l q. o (omega (arith, q)) (omega (arith, q)) (omega (arith, q)) (omega (arith, q))) },
   )
 
-  -- n fours of column x
-  pub column-filled : (x n a i : ℕ) {old new : List ℤ} → x < 72 → 4 * r + n < 4 * H → Edge (4 * W) (16 * c + x) → 16 * c + x < 16 * W → a ≡ (16 * r + 2) * (16 * W) + 16 * c + x → i ≡ 144 + x
-      → Spread i 72 (4 * n) (foursFrom samples (16 * W) a) old new
-      → Holds size samples r c 2 (4 * n + 2) x (x + 1) new × Kept 2 (4 * n + 2) x (x + 1) old new
+  -- n fours of columns x and x + 1
+  pub columns-filled : (x n a i : ℕ) {old new : List ℤ} → x ≤ 70 → 4 * r + n < 4 * H → First (4 * W) (16 * c + x) → a ≡ (16 * r + 2) * (16 * W) + 16 * c + x → i ≡ 144 + x
+      → Columns i (4 * n) (foursDown samples (16 * W) a) old new
+      → Holds size samples r c 2 (4 * n + 2) x (x + 2) new × Kept 2 (4 * n + 2) x (x + 2) old new
   unfolding unfilteredAt unfiltered
-  column-filled x n a i {old} {new} few some edge low e f d = (
+  columns-filled x n a i {old} {new} few some first e f d = (
     record {
       there = λ y z g h k l u v.
           let j = y - 2 in
           let m = 4 * r + j / 4 in
-          let same : z ≡ x = omega arith in
-          ap (at new) (omega (arith, same)) ∙ d .own j (omega arith)
+          ap (at new) (omega arith) ∙ d .own (z - x) j (omega arith) (omega arith)
           ∙ ap₂ (λ (w b : ℕ). at (undo fourFilter (get (line w b) samples)) (j % 4)) (omega arith) (omega (arith, e))
-          ∙ sym (column-at (4 * W) (4 * H) samples room (16 * c + x) m (j % 4) (omega arith) edge (omega arith) (omega arith))
-          ∙ ap₂ (λ (b o : ℕ). at (undo (filters (4 * W) (4 * H)) samples) (cell (4 * W) b (16 * c + o))) (omega arith) (sym same);
+          ∙ sym (column-at (4 * W) (4 * H) samples room (16 * c + z) m (j % 4) (omega arith) (first-edge (4 * W) (16 * c + x) (16 * c + z) first (omega arith) (omega arith)) (omega arith) (omega arith))
+          ∙ ap (λ (b : ℕ). at (undo (filters (4 * W) (4 * H)) samples) (cell (4 * W) b (16 * c + z))) (omega arith);
     },
-    record { len = d .len; same = λ y z h o. d .others (72 * y + z) (λ k l q. o (omega (arith, q)) (omega (arith, q)) (omega (arith, q)) (omega (arith, q))) },
+    record { len = d .len; same = λ y z h o. d .others (72 * y + z) (λ b k hb l q. o (omega (arith, q)) (omega (arith, q)) (omega (arith, q)) (omega (arith, q))) },
   )
 
   -- a corner in rows y and y + 1 and columns x and x + 1
@@ -305,19 +333,16 @@ module _ {size : Size} {r first down : ℕ} (low : r < size .height .0) (rows : 
             (λ w. by-cases (decLt y 16) (λ o. d .there y x (omega (arith, w)) o m n u v) (λ o. absurd (beyond y w o g u))));
       }
 
-  pub columns-joined : {samples : List ℤ} (c x : ℕ) {v0 v1 v2 v3 v4 : List ℤ} → x ≤ 70 → Holds size samples r c first 2 x (x + 2) v1 × Kept first 2 x (x + 2) v0 v1
-      → Holds size samples r c 2 (4 * down + 2) x (x + 1) v2 × Kept 2 (4 * down + 2) x (x + 1) v1 v2 → Holds size samples r c 2 (4 * down + 2) (x + 1) (x + 1 + 1) v3 × Kept 2 (4 * down + 2) (x + 1) (x + 1 + 1) v2 v3
-      → Holds size samples r c (4 * down + 2) 16 x (x + 2) v4 × Kept (4 * down + 2) 16 x (x + 2) v3 v4
-      → Holds size samples r c first 18 x (x + 2) v4 × Kept first 18 x (x + 2) v0 v4
-  columns-joined c x few a b d e =
+  pub columns-joined : {samples : List ℤ} (c x : ℕ) {v0 v1 v2 v3 : List ℤ} → x ≤ 70 → Holds size samples r c first 2 x (x + 2) v1 × Kept first 2 x (x + 2) v0 v1
+      → Holds size samples r c 2 (4 * down + 2) x (x + 2) v2 × Kept 2 (4 * down + 2) x (x + 2) v1 v2
+      → Holds size samples r c (4 * down + 2) 16 x (x + 2) v3 × Kept (4 * down + 2) 16 x (x + 2) v2 v3
+      → Holds size samples r c first 18 x (x + 2) v3 × Kept first 18 x (x + 2) v0 v3
+  columns-joined c x few a b d =
       let n = rows-down in
       let f = rows-first in
-      let above = holds-kept r c first 2 x (x + 2) 2 (4 * down + 2) (x + 1) (x + 1 + 1) (omega arith) (λ y z g h k l m o p q. absurd (omega arith))
-      (holds-kept r c first 2 x (x + 2) 2 (4 * down + 2) x (x + 1) (omega arith) (λ y z g h k l m o p q. absurd (omega arith)) (a .0) (b .1)) (d .1) in
-      let left = holds-kept r c 2 (4 * down + 2) x (x + 1) 2 (4 * down + 2) (x + 1) (x + 1 + 1) (omega arith) (λ y z g h k l m o p q. absurd (omega arith)) (b .0) (d .1) in
-      let both = holds-as r c 2 (4 * down + 2) x (x + 2) (omega arith) (omega arith) (omega arith) (omega arith) (holds-beside r c 2 (4 * down + 2) x (x + 1) (x + 1 + 1) left (d .0)) in (
-        three-rows c x (x + 2) (holds-kept r c first 2 x (x + 2) (4 * down + 2) 16 x (x + 2) (omega arith) (λ y z g h k l m o p q. absurd (omega (arith, n))) above (e .1))
-            (holds-kept r c 2 (4 * down + 2) x (x + 2) (4 * down + 2) 16 x (x + 2) (omega arith) (λ y z g h k l m o p q. absurd (omega arith)) both (e .1)) (e .0),
+      let above = holds-kept r c first 2 x (x + 2) 2 (4 * down + 2) x (x + 2) (omega arith) (λ y z g h k l m o p q. absurd (omega arith)) (a .0) (b .1) in (
+        three-rows c x (x + 2) (holds-kept r c first 2 x (x + 2) (4 * down + 2) 16 x (x + 2) (omega arith) (λ y z g h k l m o p q. absurd (omega (arith, n))) above (d .1))
+            (holds-kept r c 2 (4 * down + 2) x (x + 2) (4 * down + 2) 16 x (x + 2) (omega arith) (λ y z g h k l m o p q. absurd (omega arith)) (b .0) (d .1)) (d .0),
         kept-then (kept-as first 18 x (x + 2) (omega arith) (omega arith) (omega arith) (omega arith) (a .1)) (kept-then (kept-as first 18 x (x + 2) (omega arith) (omega (arith, n)) (omega arith) (omega arith) (b .1))
-            (kept-then (kept-as first 18 x (x + 2) (omega arith) (omega (arith, n)) (omega arith) (omega arith) (d .1)) (kept-as first 18 x (x + 2) (omega (arith, n)) (omega arith) (omega arith) (omega arith) (e .1)))),
+            (kept-as first 18 x (x + 2) (omega (arith, n)) (omega arith) (omega arith) (omega arith) (d .1))),
       )

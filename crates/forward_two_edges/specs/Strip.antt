@@ -41,6 +41,12 @@ pub record Spread (i step n : ℕ) (f : ℕ → ℤ) (old new : List ℤ) : Type
   pub own : (k : ℕ) → k < n → at new (i + k * step) ≡ f k
   pub others : (j : ℕ) → ((k : ℕ) → k < n → j ≡ i + k * step → ⊥) → at new j ≡ at old j
 
+-- in two columns side by side n numbers, from places i and i + 1 on, are f 0 and f 1 of 0 to n - 1, and all others what they were
+pub record Columns (i n : ℕ) (f : ℕ → ℕ → ℤ) (old new : List ℤ) : Type 0 where
+  pub len : length new ≡ length old
+  pub own : (b k : ℕ) → b < 2 → k < n → at new (i + b + k * 72) ≡ f b k
+  pub others : (j : ℕ) → ((b k : ℕ) → b < 2 → k < n → j ≡ i + b + k * 72 → ⊥) → at new j ≡ at old j
+
 -- four numbers in a line, of which the first stands at place i, unfiltered
 unfoldable pub unfilteredAt : List ℤ → ℕ → ℕ → List ℤ
 unfilteredAt samples step i = undo fourFilter (get (line step i) samples)

@@ -5,7 +5,7 @@ ghost use lib.ListN.{length};
 ghost use Rattle.lifting.specs.Program.{at as number};
 ghost use Rattle.picture.specs.Level.{cell};
 ghost use Rattle.forward_two_edges.specs.Unfiltered.{Edge, First};
-ghost use Rattle.forward_two_edges.specs.Strip.{Holds, Kept, Given, Rows, Spread, unfilteredAt};
+ghost use Rattle.forward_two_edges.specs.Strip.{Holds, Kept, Given, Rows, Spread, Columns, unfilteredAt};
 use four_filter::unfiltered;
 use grid::get_corner;
 use grid::get_four;
@@ -100,8 +100,8 @@ fn corner(
     }
 }
 
-// n fours one below the other in a column of samples, `w` of which make a row: from place `at` of the samples to place `to` of the strip. The place below the last
-// of them is given back.
+// n fours one below the other in each of two columns of samples side by side, `w` of which make a row: from place `at` of the samples to place `to` of the strip.
+// Both go in one walk, since their numbers stand in the same lines of memory. The place below the last four of the first is given back.
 fn column_fours(
     samples: &[i32],
     w: usize,
@@ -110,13 +110,14 @@ fn column_fours(
     strip: &mut [i32],
     to: usize,
 ) -> usize
-    requires { ⌜ (0 < w) × (at + 4 * w * n ≤ length (now samples)) × (to + 288 * n < length (now strip) + 72) ⌝ }
-    ensures { λ u. ⌜ Spread to 72 (4 * n) (λ j. number (unfilteredAt (now (samples .entry)) w (at + 4 * w * (j / 4))) (j % 4)) (now (strip .entry)) (now (strip .exit)) ⌝ }
+    requires { ⌜ (0 < w) × (at + 1 + 4 * w * n ≤ length (now samples)) × (to + 1 + 288 * n < length (now strip) + 72) ⌝ }
+    ensures { λ u. ⌜ Columns to (4 * n) (λ b j. number (unfilteredAt (now (samples .entry)) w (at + b + 4 * w * (j / 4))) (j % 4)) (now (strip .entry)) (now (strip .exit)) ⌝ }
     ensures { λ u. ⌜ u ≡ at + 4 * w * n ⌝ }
 {
     let mut next = at;
     for l in 0..n {
         unfilter_four(samples, w, next, strip, 72, to + 288 * l);
+        unfilter_four(samples, w, next + 1, strip, 72, to + 1 + 288 * l);
         next += 4 * w;
     }
     next
@@ -147,6 +148,5 @@ pub fn edge_columns(
     let second = top + w + w;
     corner(size, r, c, samples, top, first, 2, strip, x);
     let last = column_fours(samples, w, second, down, strip, 144 + x);
-    column_fours(samples, w, second + 1, down, strip, 145 + x);
     corner(size, r, c, samples, last, 4 * down + 2, 16, strip, x);
 }

@@ -1,10 +1,10 @@
--- The corner above, two columns of windows, and the corner below, which begins where the first column ends.
+-- The corner above, two columns of fours, and the corner below, which begins where the first column ends.
 use Prim.Native.Nat.{_+_, _*_, _<_, _≤_}
 use mathlib.Core.Path.{_∙_}
 use native.Mathlib.Omega.{arith}
 use Rattle.picture.specs.Sizes.{macroblocks}
-use Rattle.forward_two_edges.proofs.Alone.{first-edge, first-inside}
-use Rattle.forward_two_edges.proofs.Strips.{given-of, place-low, column-filled, first-place, rows-down, corner-above, corner-below, columns-joined}
+use Rattle.forward_two_edges.proofs.Alone.{first-inside}
+use Rattle.forward_two_edges.proofs.Strips.{given-of, place-low, columns-filled, first-place, rows-down, corner-above, corner-below, columns-joined}
 use borrow.Author.Needs.{needs}
 use Rattle.forward_two_edges.proofs.edge_columns.Statement.{statement}
 use Rattle.forward_two_edges.proofs.edge_columns.Tie as tie
@@ -44,55 +44,37 @@ column-fours-requires c κs =
     let g = s .pre .0 in
     (omega (arith, g .sized .wide), omega (arith, low s, g .of-samples), omega (arith, ends s, s .pre .1 .1 .1 .0, d .corner .ensures .1 .len, g .of-strip))
 
-add-column-fours-2 : tie.Need-add-column-fours-2
-add-column-fours-2 c = omega (arith, low (c .before .before .before .before .before .before .before))
+mul-corner : tie.Need-mul-corner
+mul-corner c = omega (arith, ends (c .before .before .before .before .before .before .before))
 
-column-fours-requires-2 : tie.Need-column-fours-requires-2
-column-fours-requires-2 c κs =
+add-corner : tie.Need-add-corner
+add-corner c = omega (arith, ends (c .before .before .before .before .before .before .before))
+
+corner-requires-2 : tie.Need-corner-requires-2
+corner-requires-2 c κs =
     let e = c .before .before in
     let d = e .before .before .before in
     let s = d .before .before .before in
     let g = s .pre .0 in
-    (omega (arith, g .sized .wide), omega (arith, low s, g .of-samples), omega (arith, ends s, s .pre .1 .1 .1 .0, e .column-fours .ensures .0 .len, d .corner .ensures .1 .len, g .of-strip))
-
-mul-corner : tie.Need-mul-corner
-mul-corner c = omega (arith, ends (c .before .before .before .before .before .before .before .before .before .before))
-
-add-corner : tie.Need-add-corner
-add-corner c = omega (arith, ends (c .before .before .before .before .before .before .before .before .before .before))
-
-corner-requires-2 : tie.Need-corner-requires-2
-corner-requires-2 c κs =
-    let f = c .before .before in
-    let e = f .before .before .before in
-    let d = e .before .before .before in
-    let s = d .before .before .before in
-    let g = s .pre .0 in
     let h = s .pre .1 .1 in (
-      given-of g (f .column-fours2 .ensures .0 .len ∙ e .column-fours .ensures .0 .len ∙ d .corner .ensures .1 .len ∙ g .of-strip),
+      given-of g (e .column-fours .ensures .0 .len ∙ d .corner .ensures .1 .len ∙ g .of-strip),
       (λ k. omega (arith, s .pre .1 .0, e .column-fours .ensures .1), ((omega arith, h .1 .0, h .1 .1), corner-below (g .below) (h .0))),
     )
 
 returns : tie.Need-returns
 returns c =
     let h = c .before in
-    let f = h .before .before .before in
-    let e = f .before .before .before in
+    let e = h .before .before .before in
     let d = e .before .before .before in
     let s = d .before .before .before in
     let a = s .args in
     let g = s .pre .0 in
-    let at = s .pre .1 .0 in
     let k = s .pre .1 .1 .1 in
-    let n = ends s .2 in
-    let left = first-edge (4 * a .size .width .0) (16 * a .c + a .x) (16 * a .c + a .x) (k .1) (omega arith) (omega arith) in
-    let right = first-edge (4 * a .size .width .0) (16 * a .c + a .x) (16 * a .c + (a .x + 1)) (k .1) (omega arith) (omega arith) in
     columns-joined (g .below) (s .pre .1 .1 .0) (a .c) (a .x) (k .0) (d .corner .ensures)
-    (column-filled (a .size) (a .samples .now) (g .sized .wide) (g .sized .tall) (g .of-samples) (a .r) (a .c) (a .x) (a .down) _ _ (omega (arith, k .0)) n left (omega (arith, inside s)) (omega (arith, at)) (omega arith) (e .column-fours .ensures .0))
-    (column-filled (a .size) (a .samples .now) (g .sized .wide) (g .sized .tall) (g .of-samples) (a .r) (a .c) (a .x + 1) (a .down) _ _ (omega (arith, k .0)) n right (omega (arith, inside s)) (omega (arith, at)) (omega arith) (f .column-fours2 .ensures .0))
+    (columns-filled (a .size) (a .samples .now) (g .sized .wide) (g .sized .tall) (g .of-samples) (a .r) (a .c) (a .x) (a .down) _ _ (k .0) (ends s .2) (k .1) (omega (arith, s .pre .1 .0)) (omega arith) (e .column-fours .ensures .0))
     (h .corner2 .ensures)
 
 pub edge-columns-spec : {M : Type 1} → statement M
 edge-columns-spec =
     tie.close
-    (tie.spec (λ c. search needs) (λ c. search needs) add-top add-second add-second-2 corner-requires (λ c. search needs) column-fours-requires add-column-fours-2 (λ c. search needs) column-fours-requires-2 mul-corner add-corner corner-requires-2 (λ c. search needs) returns)
+    (tie.spec (λ c. search needs) (λ c. search needs) add-top add-second add-second-2 corner-requires (λ c. search needs) column-fours-requires mul-corner add-corner corner-requires-2 (λ c. search needs) returns)
