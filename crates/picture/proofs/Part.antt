@@ -12,7 +12,7 @@ use Rattle.lifting.specs.Program.{Program, end, apply, _then_, Operator, Core, 
 use Rattle.figures.specs.Figures.{core, squareFilter, fourFilter}
 use Rattle.picture.specs.Level.{cell, strip, square, corner, coreAt, squareFilterAt, fourFilterAt, cornerFilterAt, cores, squareFilters, rowFilters, columnFilters, cornerFilters, filters}
 use Rattle.picture.proofs.Cells.{zone, InCell, core-in-cell, square-filter-in-cell, row-filter-in-cell, column-filter-in-cell, corner-filter-in-cell}
-use Rattle.lifting.proofs.Between.{All, all-map, Pairing, OneToOne, Pairs, FreeLeft, FreeRight, Alike, Like, pairs-append, like-then, free-left, free-right, both-free, none-left, none-right, like-all, like-each, like-use}
+use Rattle.lifting.proofs.Between.{All, all-map, Pairing, OneToOne, Pairs, FreeLeft, FreeRight, Alike, Like, pairs-append, like-then, free-left, free-right, both-free, like-all, like-each, like-use}
 
 -- row r, column c of the small grid and row r, column 4 * k + c of the wide one, in a cell of Q
 pub record Twin (d p k P q : ℕ) (Q : ℕ → ℕ → Type 0) (i j : ℕ) : Type 0 where

@@ -23,7 +23,6 @@ use Rattle.picture.specs.Planes.{Planes, PlanesOf, table, grid, blockOrd
 use Rattle.picture.specs.Windows.{highMargin, lowMargin}
 use Rattle.picture.specs.Claims.{Shape}
 use Rattle.picture.specs.Transform.{quarterBy, inverseBy, inverse, forward}
-use Rattle.picture.proofs.Alone.{then-end}
 use Rattle.picture.proofs.Table.{row-table}
 use Rattle.picture.proofs.OnePlanes.{row-inverse}
 use Rattle.picture.proofs.WholePictures.{whole-pictures}

@@ -1,6 +1,6 @@
 -- Four after four down both columns.
 use Prim.Native.Nat.{_+_, _-_, _*_, _≤_}
-use mathlib.Core.Path.{_≡_, _∙_}
+use mathlib.Core.Path.{_≡_}
 use native.Mathlib.Omega.{arith}
 use Rattle.grid.proofs.Rows.{row-inside}
 use Rattle.forward_two_edges.specs.Strip.{Columns}
