@@ -8,7 +8,7 @@ use reference::operators::{forward, inverse};
 use reference::random::{Random, Values};
 
 /// One macroblock, one wide, one high, and two where the corners lie apart.
-const NARROW: [(u32, u32); 9] =
+const SIZES: [(u32, u32); 9] =
     [(1, 1), (1, 2), (2, 1), (1, 5), (5, 1), (1, 413), (525, 1), (2, 2), (3, 4)];
 
 /// The places of the four corners of a grid, each row by row.
@@ -48,7 +48,7 @@ fn sample_shape(size: Size) -> (usize, usize) {
 #[test]
 fn each_corner_of_each_filtered_level() {
     let mut random = Random::new(131);
-    for (width, height) in NARROW {
+    for (width, height) in SIZES {
         let shape = size(width, height);
         for values in [Values::Small, Values::Wild] {
             let planes = random_planes(&mut random, shape.macroblocks(), values);
@@ -88,7 +88,7 @@ fn the_view_of_one_macroblock() {
 #[test]
 fn one_corner_alone_undone() {
     let mut random = Random::new(133);
-    for (width, height) in NARROW {
+    for (width, height) in SIZES {
         let shape = size(width, height);
         let (across, down) = sample_shape(shape);
         for places in corners(across, down) {
