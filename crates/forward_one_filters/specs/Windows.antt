@@ -3,11 +3,11 @@ use Prim.Native.Nat.{ℕ, _+_, _-_, _*_}
 use Rattle.lifting.specs.Program.{Program, each}
 use Rattle.picture.specs.declared.size.Size.{Size}
 use Rattle.picture.specs.Level.{squareFilterAt}
-use Rattle.forward_one_grid.specs.Held.{corner}
+use Rattle.forward_one_grid.specs.Held.{windowStart}
 
 -- Figure 4.14 on window (j, i)
 abbrev pub filterOn : Size → ℕ → ℕ → Program
-filterOn size j i = squareFilterAt (4 * size .width .0) (corner size j i)
+filterOn size j i = squareFilterAt (4 * size .width .0) (windowStart size j i)
 
 -- on n windows from (j, i) on
 abbrev pub filtersOn : Size → ℕ → ℕ → ℕ → Program

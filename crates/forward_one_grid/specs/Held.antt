@@ -31,8 +31,8 @@ pairs size t k u l step =
     place W t k ∷ place W t (k + step) ∷ place W u l ∷ place W u (l + step) ∷ []
 
 -- window (j, i) lies over the corner of squares (j, i), (j, i + 1), (j + 1, i) and (j + 1, i + 1): the place of its first number, and all its places
-abbrev pub corner : Size → ℕ → ℕ → ℕ
-corner size j i = cell (size .width .0) (4 * j + 2) (4 * i + 2)
+abbrev pub windowStart : Size → ℕ → ℕ → ℕ
+windowStart size j i = cell (size .width .0) (4 * j + 2) (4 * i + 2)
 
 abbrev pub window : Size → ℕ → ℕ → List ℕ
-window size j i = square (4 * size .width .0) (corner size j i)
+window size j i = square (4 * size .width .0) (windowStart size j i)
