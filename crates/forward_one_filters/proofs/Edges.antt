@@ -54,17 +54,9 @@ each-same (suc n) f g h = rw (each-same n f g (λ i l. h i (omega arith)), h n (
 four-same : {a b c d a' b' c' d' : Program} → a ≡ a' → b ≡ b' → c ≡ c' → d ≡ d' → (a then b then c then d) ≡ (a' then b' then c' then d')
 four-same e f g h = rw (e, f, g, h)
 
--- four lines, one after another
-pub edges-parts : (size : Size) (far pace side step n : ℕ) (v : List ℤ) {v1 v2 v3 v4 : List ℤ} → v1 ≡ undo (line size far pace (3 * side) step n) v → v2 ≡ undo (line size far pace (2 * side) step n) v1
-    → v3 ≡ undo (line size 0 pace side step n) v2 → v4 ≡ undo (line size 0 pace 0 step n) v3 → v4 ≡ undo (edges size far pace side step n) v
-unfolding edges
-edges-parts size far pace side step n v e f g h = rw (h, g, f, e) (simp undo-then)
-
--- and four corners
-pub corners-parts : (size : Size) (right bottom last : ℕ) (v : List ℤ) {v1 v2 v3 v4 : List ℤ} → v1 ≡ undo (filterOf size last 10 last 14 1) v → v2 ≡ undo (filterOf size bottom 8 bottom 12 1) v1
-    → v3 ≡ undo (filterOf size right 2 right 6 1) v2 → v4 ≡ undo (filterOf size 0 0 0 4 1) v3 → v4 ≡ undo (corners size right bottom last) v
-unfolding corners
-corners-parts size right bottom last v e f g h = rw (h, g, f, e) (simp undo-then)
+-- four programs undone, the last of them first
+pub four-undone : (a b c d : Program) (v : List ℤ) {v1 v2 v3 v4 : List ℤ} → v1 ≡ undo d v → v2 ≡ undo c v1 → v3 ≡ undo b v2 → v4 ≡ undo a v3 → v4 ≡ undo (a then b then c then d) v
+four-undone a b c d v e f g h = rw (h, g, f, e) (simp undo-then)
 
 module _ (size : Size) (sized : Sized size) where
   abbrev W : ℕ

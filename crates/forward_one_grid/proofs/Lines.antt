@@ -13,7 +13,7 @@ use Rattle.lifting.proofs.Bits.{back}
 use Rattle.figures.specs.Block.{four, flat}
 use Rattle.figures.proofs.Parts.{kept}
 use Rattle.picture.specs.declared.size.Size.{Size}
-use Rattle.picture.specs.Level.{cell, strip, square, corner as cornerAt}
+use Rattle.picture.specs.Level.{cell, strip, square, corner}
 use Rattle.picture.specs.Planes.{place}
 use Rattle.picture.specs.Sizes.{macroblocks, Sized}
 use Rattle.picture.proofs.CheckLaws.{few}
@@ -70,7 +70,7 @@ module _ (size : Size) (t u j i : ℕ) where
       (place-is u (j + 1) i (c + 4) 1 c (omega arith) h (omega arith) (omega arith) ∙ omega arith)
 
 -- from row y and column x of square (j, i) on
-pub corner-is : (size : Size) (t j i y x : ℕ) → t ≡ j * size .width .0 + i → i < size .width .0 → x < 3 → pairs size t (4 * y + x) t (4 * y + x + 4) 1 ≡ cornerAt (4 * size .width .0) (cell (size .width .0) (4 * j + y) (4 * i + x))
+pub corner-is : (size : Size) (t j i y x : ℕ) → t ≡ j * size .width .0 + i → i < size .width .0 → x < 3 → pairs size t (4 * y + x) t (4 * y + x + 4) 1 ≡ corner (4 * size .width .0) (cell (size .width .0) (4 * j + y) (4 * i + x))
 corner-is size t j i y x e h l =
     fours (place-is t j i (4 * y + x) y x e h (omega arith) (omega arith))
     (place-is t j i (4 * y + x + 1) y (x + 1) e h (omega arith) (omega arith) ∙ omega arith)
@@ -80,16 +80,16 @@ corner-is size t j i y x e h l =
 -- ---- windows
 
 -- squares t, t + 1, u and u + 1 are the four over whose corner window (j, i) lies
-pub record Corner (size : Size) (j i t u : ℕ) : Type 0 where
+pub record Meeting (size : Size) (j i t u : ℕ) : Type 0 where
   pub upper : t ≡ j * size .width .0 + i
   pub lower : u ≡ t + size .width .0
   pub beside : i + 1 < size .width .0
   pub below : u + 1 < macroblocks size
   pub few : macroblocks size ≤ 216825
 
-pub corner : (size : Size) (j i : ℕ) {t u : ℕ} → Sized size → j + 1 < size .height .0 → i + 1 < size .width .0
-    → t ≡ j * size .width .0 + i → u ≡ t + size .width .0 → Corner size j i t u
-corner size j i s h k e f =
+pub meeting : (size : Size) (j i : ℕ) {t u : ℕ} → Sized size → j + 1 < size .height .0 → i + 1 < size .width .0
+    → t ≡ j * size .width .0 + i → u ≡ t + size .width .0 → Meeting size j i t u
+meeting size j i s h k e f =
     record {
       upper = e;
       lower = f;
@@ -98,7 +98,7 @@ corner size j i s h k e f =
       few = few (size .width .0) (size .height .0) (s .most-wide) (s .most-tall);
     }
 
-module _ {size : Size} {j i t u : ℕ} (at : Corner size j i t u) where
+module _ {size : Size} {j i t u : ℕ} (at : Meeting size j i t u) where
   abbrev w : ℕ
   w = 4 * size .width .0
 

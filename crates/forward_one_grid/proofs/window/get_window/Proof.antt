@@ -3,12 +3,12 @@ use Prim.Native.Nat.{_+_}
 use mathlib.Core.Path.{refl}
 use native.Mathlib.Omega.{arith}
 use borrow.Author.Needs.{needs}
-use Rattle.forward_one_grid.proofs.Lines.{Corner, corner, window-read}
+use Rattle.forward_one_grid.proofs.Lines.{Meeting, meeting, window-read}
 use Rattle.forward_one_grid.proofs.window.get_window.Statement.{statement}
 use Rattle.forward_one_grid.proofs.window.get_window.Tie as tie
 
-at : (s : tie.Start) → let a = s .args in Corner (a .size) (a .j) (a .i) (a .t) (a .t + a .size .width .0)
-at s = corner (s .args .size) (s .args .j) (s .args .i) (s .pre .0 .sized) (s .pre .1 .0) (s .pre .1 .1) (s .pre .1 .2) refl
+at : (s : tie.Start) → let a = s .args in Meeting (a .size) (a .j) (a .i) (a .t) (a .t + a .size .width .0)
+at s = meeting (s .args .size) (s .args .j) (s .args .i) (s .pre .0 .sized) (s .pre .1 .0) (s .pre .1 .1) (s .pre .1 .2) refl
 
 returns : tie.Need-returns
 returns c =
