@@ -166,13 +166,6 @@ pub read-sized : (bytes ys : List ℕ) (r : Header) → r ≡ answer (firstOf (s
 read-sized bytes ys r e z =
     rw (read-done bytes (startChecks bytes ++ ys) r e z) (start-shape bytes ys (number-of bytes (startChecks bytes ++ ys) r e ∙ z) .sized)
 
--- eight words that were read
-pub eight : (bytes : List ℕ) {a b c d e f g h : ℕ}
-    → a ≡ wordAt bytes 0 → b ≡ wordAt bytes 4 → c ≡ wordAt bytes 8 → d ≡ wordAt bytes 12
-    → e ≡ wordAt bytes 16 → f ≡ wordAt bytes 20 → g ≡ wordAt bytes 24 → h ≡ wordAt bytes 28
-    → record { mode = a; width = b; height = c; dc = d; low = e; high = f; total = g; last = h } ≡ wordsOf bytes
-eight bytes a b c d e f g h = rw (a, b, c, d, e, f, g, h)
-
 -- what an answer leaves: what was there where it refuses, and else the result
 pub unchanged : {A : Type 0} (bytes : List ℕ) (k : ℕ) (r : Header) (x y : A) → r ≡ answer k bytes → (r .number ≡ 0 → ⊥) → y ≡ settled k x y
 unchanged bytes k r x y e h = sym (settled-refused k x y (λ z. h (ap (λ (a : Header). a .number) e ∙ answer-number k bytes ∙ z)))

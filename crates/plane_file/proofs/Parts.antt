@@ -1,10 +1,10 @@
 -- Words and numbers in lists of bytes: what stands behind a part that has been written moves up by what is written next.
 use Prim.Native.Nat.{ℕ, suc, _+_, _*_, _/_, _%_, _≤_, _<_}
 use mathlib.Core.Path.{_≡_, refl, sym, ap, _∙_}
-use mathlib.Core.List.{List, [], _∷_, _++_, append-assoc, append-nil}
+use mathlib.Core.List.{List, [], _∷_, _++_, append-assoc, append-nil, map}
 use native.Mathlib.Omega.{arith}
 use native.Mathlib.Numerals.{add-one}
-use lib.ListN.{length, take, drop, getD, set, length-append, take-append-drop}
+use lib.ListN.{length, take, drop, getD, set, length-append, length-map, List·getD-map, take-append-drop}
 use lib.Seq.{sets-eq, take-at, drop-append-add, drop-drop, take-suc, length-take-le}
 use lib.IntN.{ℤ, pos}
 use Rattle.lifting.specs.Wrap.{low32}
@@ -41,52 +41,69 @@ pub then-at : (done vs b : List ℕ) (at k next : ℕ) {b1 b2 : List ℕ} → le
     → b1 ≡ done ++ drop at b → b2 ≡ take at b1 ++ vs ++ drop (at + k) b1 → b2 ≡ (done ++ vs) ++ drop next b
 then-at done vs b at k next e n p q = then-more done vs b at k e p q ∙ ap (λ (m : ℕ). (done ++ vs) ++ drop m b) n
 
--- ---- numbers
+-- ---- words one after another
 
-pub numbers-append : (xs ys : List ℤ) → numbers (xs ++ ys) ≡ numbers xs ++ numbers ys
-unfolding numbers words
-numbers-append [] ys = refl
-numbers-append (x ∷ xs) ys = ap (λ (l : List ℕ). word (low32 x) ++ l) (numbers-append xs ys)
+words-append : (xs ys : List ℕ) → words (xs ++ ys) ≡ words xs ++ words ys
+unfolding words
+words-append [] ys = refl
+words-append (x ∷ xs) ys = ap (λ (l : List ℕ). word x ++ l) (words-append xs ys)
 
-pub numbers-length : (xs : List ℤ) → length (numbers xs) ≡ 4 * length xs
-unfolding numbers words
-numbers-length [] = refl
-numbers-length (x ∷ xs) = omega (arith, numbers-length xs)
+pub words-length : (xs : List ℕ) → length (words xs) ≡ 4 * length xs
+unfolding words
+words-length [] = refl
+words-length (x ∷ xs) = omega (arith, words-length xs)
 
-numbers-one : (x : ℤ) → numbers (x ∷ []) ≡ word (low32 x)
-unfolding numbers words
-numbers-one x = refl
+words-one : (x : ℕ) → words (x ∷ []) ≡ word x
+unfolding words
+words-one x = refl
 
-pub numbers-more : (xs : List ℤ) (i : ℕ) → i < length xs → numbers (take (i + 1) xs) ≡ numbers (take i xs) ++ word (low32 (getD xs i (pos 0)))
-numbers-more xs i h = rw (add-one i, take-suc xs i (pos 0) h, numbers-append) (ap (λ (l : List ℕ). numbers (take i xs) ++ l) (numbers-one _))
+words-more : (xs : List ℕ) (i : ℕ) → i < length xs → words (take (i + 1) xs) ≡ words (take i xs) ++ word (getD xs i 0)
+words-more xs i h = rw (add-one i, take-suc xs i 0 h, words-append) (ap (λ (l : List ℕ). words (take i xs) ++ l) (words-one _))
 
--- a plane of which i numbers are written at `at`
-abbrev pub Written : List ℤ → List ℕ → ℕ → List ℕ → ℕ → Type 0
-Written plane b at b1 i = b1 ≡ (take at b ++ numbers (take i plane)) ++ drop (at + 4 * i) b
+-- of the words ws the first i are written at `at`
+abbrev pub Written : List ℕ → List ℕ → ℕ → List ℕ → ℕ → Type 0
+Written ws b at b1 i = b1 ≡ (take at b ++ words (take i ws)) ++ drop (at + 4 * i) b
 
-pub none-written : (plane : List ℤ) (b : List ℕ) (at : ℕ) → Written plane b at b 0
-unfolding numbers words
-none-written plane b at = sym (ap (λ (l : List ℕ). l ++ drop (at + 0) b) (append-nil (take at b)) ∙ rw (zero-more at) (take-append-drop at b))
+pub none-written : (ws b : List ℕ) (at : ℕ) → Written ws b at b 0
+unfolding words
+none-written ws b at = sym (ap (λ (l : List ℕ). l ++ drop (at + 0) b) (append-nil (take at b)) ∙ rw (zero-more at) (take-append-drop at b))
   where
     zero-more : (n : ℕ) → n + 0 ≡ n
     zero-more n = omega arith
 
-pub one-written : (plane : List ℤ) (b : List ℕ) (at i x : ℕ) {b1 b2 : List ℕ} → i < length plane → at + 4 * length plane ≤ length b
-    → Written plane b at b1 i → x ≡ low32 (getD plane i (pos 0))
-    → b2 ≡ take (at + 4 * i) b1 ++ word x ++ drop (at + 4 * i + 4) b1 → Written plane b at b2 (i + 1)
-one-written plane b at i x h fits w e q =
-    rw (next, numbers-more plane i h, ← e, ← append-assoc) (then-more (take at b ++ numbers (take i plane)) (word x) b (at + 4 * i) 4 long w q)
+pub one-written : (ws b : List ℕ) (at i x : ℕ) {b1 b2 : List ℕ} → i < length ws → at + 4 * length ws ≤ length b
+    → Written ws b at b1 i → x ≡ getD ws i 0
+    → b2 ≡ take (at + 4 * i) b1 ++ word x ++ drop (at + 4 * i + 4) b1 → Written ws b at b2 (i + 1)
+one-written ws b at i x h fits w e q =
+    rw (next, words-more ws i h, ← e, ← append-assoc) (then-more (take at b ++ words (take i ws)) (word x) b (at + 4 * i) 4 long w q)
   where
     next : at + 4 * (i + 1) ≡ at + 4 * i + 4
     next = omega arith
 
-    long : length (take at b ++ numbers (take i plane)) ≡ at + 4 * i
-    long = omega (arith, length-append (take at b) (numbers (take i plane)), numbers-length (take i plane), length-take-le at b (omega arith), length-take-le i plane (omega arith))
+    long : length (take at b ++ words (take i ws)) ≡ at + 4 * i
+    long = omega (arith, length-append (take at b) (words (take i ws)), words-length (take i ws), length-take-le at b (omega arith), length-take-le i ws (omega arith))
 
-pub all-written : (plane : List ℤ) (b : List ℕ) (at i : ℕ) {b1 : List ℕ} → i ≡ length plane → Written plane b at b1 i
-    → b1 ≡ take at b ++ numbers plane ++ drop (at + 4 * length plane) b
-all-written plane b at i e w = w ∙ rw (e, take-whole plane)
+pub all-written : (ws b : List ℕ) (at i : ℕ) {b1 : List ℕ} → i ≡ length ws → Written ws b at b1 i
+    → b1 ≡ take at b ++ words ws ++ drop (at + 4 * length ws) b
+all-written ws b at i e w = w ∙ rw (e, take-whole ws)
   where
-    take-whole : (l : List ℤ) → take (length l) l ≡ l
+    take-whole : (l : List ℕ) → take (length l) l ≡ l
     take-whole [] = refl
-    take-whole (x ∷ l) = ap (λ (k : List ℤ). x ∷ k) (take-whole l)
+    take-whole (x ∷ l) = ap (λ (k : List ℕ). x ∷ k) (take-whole l)
+
+-- ---- the same for a plane's numbers
+
+pub numbers-length : (xs : List ℤ) → length (numbers xs) ≡ 4 * length xs
+unfolding numbers
+numbers-length xs = words-length (map low32 xs) ∙ ap (λ (n : ℕ). 4 * n) (length-map xs low32)
+
+pub number-written : (plane : List ℤ) (b : List ℕ) (at i x : ℕ) {b1 b2 : List ℕ} → i < length plane → at + 4 * length plane ≤ length b
+    → Written (map low32 plane) b at b1 i → x ≡ low32 (getD plane i (pos 0))
+    → b2 ≡ take (at + 4 * i) b1 ++ word x ++ drop (at + 4 * i + 4) b1 → Written (map low32 plane) b at b2 (i + 1)
+number-written plane b at i x h fits w e q =
+    one-written (map low32 plane) b at i x (omega (arith, length-map plane low32)) (omega (arith, length-map plane low32)) w (e ∙ sym (List·getD-map low32 plane i (pos 0))) q
+
+pub plane-written : (plane : List ℤ) (b : List ℕ) (at i : ℕ) {b1 : List ℕ} → i ≡ length plane → Written (map low32 plane) b at b1 i
+    → b1 ≡ take at b ++ numbers plane ++ drop (at + 4 * length plane) b
+unfolding numbers
+plane-written plane b at i e w = rw (← length-map plane low32) (all-written (map low32 plane) b at i (e ∙ sym (length-map plane low32)) w)

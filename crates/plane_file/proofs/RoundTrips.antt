@@ -20,8 +20,8 @@ use Rattle.picture.specs.Claims.{Shape}
 use Rattle.picture.specs.Planes.{Planes, PlanesOf, Lengths, table}
 use Rattle.picture.proofs.Table.{length-table, table-is, table-same}
 use Rattle.picture.proofs.NumberLaws.{passed-first, settled-done}
-use Rattle.plane_file.specs.Words.{word, words, numbers, wordAt, numberAt, numbersAt}
-use Rattle.plane_file.specs.Layout.{headerBytes, dcOffset, lowOffset, highOffset, total, headerWords, header, file, planesIn}
+use Rattle.plane_file.specs.Words.{word, words, numbers, wordAt, wordsAt, numberAt, numbersAt}
+use Rattle.plane_file.specs.Layout.{headerLength, headerBytes, dcOffset, lowOffset, highOffset, total, headerWords, header, file, planesIn}
 use Rattle.plane_file.specs.Numbers.{countIn, headerChecks, headerNumber, loadNumber}
 use Rattle.plane_file.specs.Header.{sizeIn}
 use Rattle.plane_file.specs.Claims.{LoadUndoesSave, Bytes, Saves, SaveUndoesLoad}
@@ -104,7 +104,7 @@ module _ (mode : ℕ) (size : Size) (shape : Shape mode size) (s : Planes) (fit 
         fit .high .len,
       )
 
-  header-word : (k : ℕ) → k < 8 → wordAt (file mode size s) (4 * k) ≡ getD (headerWords mode size) k 0
+  header-word : (k : ℕ) → k < headerLength → wordAt (file mode size s) (4 * k) ≡ getD (headerWords mode size) k 0
   unfolding file header
   header-word k h =
       let e : 4 * k ≡ 0 + 4 * k = omega arith in
@@ -221,19 +221,14 @@ module _ (b : List ℕ) (bytes : Bytes b) where
   unfolding wordAt
   word-small a = omega (arith, bytes a, bytes (a + 1), bytes (a + 2), bytes (a + 3))
 
-  -- n words from a on
-  abbrev word-list : ℕ → ℕ → List ℕ
-  word-list a zero = []
-  word-list a (suc n) = wordAt b a ∷ word-list (a + 4) n
-
-  words-of : (n a : ℕ) → a + 4 * n ≤ length b → words (word-list a n) ≡ take (4 * n) (drop a b)
+  words-of : (n a : ℕ) → a + 4 * n ≤ length b → words (wordsAt b a n) ≡ take (4 * n) (drop a b)
   unfolding words
   words-of zero a h = refl
   words-of (suc n) a h =
       let e : 4 * suc n ≡ 4 + 4 * n = omega arith in
       rw (e, take-add 4 (4 * n) (drop a b), drop-drop 4 a b, ← four-bytes a (omega arith), ← words-of n (a + 4) (omega arith))
 
-  numbers-are : (n a : ℕ) → map low32 (numbersAt b a n) ≡ word-list a n
+  numbers-are : (n a : ℕ) → map low32 (numbersAt b a n) ≡ wordsAt b a n
   unfolding numbersAt table
   numbers-are zero a = refl
   numbers-are (suc n) a =
@@ -250,11 +245,10 @@ module _ (b : List ℕ) (bytes : Bytes b) where
 
   header-of : HeaderFits b → header (wordAt b 0) (sizeIn b) ≡ take headerBytes b
   unfolding header
-  header-of f = ap words (the-eight (sym (f .dc)) (sym (f .low)) (sym (f .high)) (sym (f .end)) (sym (f .last))) ∙ words-of 8 0 (f .enough)
+  header-of f = ap words the-words ∙ words-of headerLength 0 (f .enough)
     where
-      the-eight : {x y z d l h t o d′ l′ h′ t′ o′ : ℕ} → d ≡ d′ → l ≡ l′ → h ≡ h′ → t ≡ t′ → o ≡ o′
-          → x ∷ y ∷ z ∷ d ∷ l ∷ h ∷ t ∷ o ∷ [] ≡ x ∷ y ∷ z ∷ d′ ∷ l′ ∷ h′ ∷ t′ ∷ o′ ∷ []
-      the-eight p q r u w = rw (p, q, r, u, w)
+      the-words : headerWords (wordAt b 0) (sizeIn b) ≡ wordsAt b 0 headerLength
+      the-words = rw (f .dc, f .low, f .high, f .end, f .last)
 
   file-of : HeaderFits b → file (wordAt b 0) (sizeIn b) (planesIn b (countIn b)) ≡ b
   unfolding file

@@ -8,7 +8,7 @@ use lib.ListN.{length, take, drop, length-append}
 use Rattle.picture.specs.declared.size.Size.{Size}
 use Rattle.picture.specs.Sizes.{macroblocks}
 use Rattle.picture.specs.Planes.{Planes, Lengths, planes}
-use Rattle.plane_file.specs.Words.{word, words, numbers, numbersAt}
+use Rattle.plane_file.specs.Words.{words, numbers, numbersAt}
 use Rattle.plane_file.specs.Layout.{headerBytes, dcOffset, lowOffset, highOffset, total, header, file, planesIn}
 use Rattle.plane_file.proofs.Parts.{then-at, numbers-length}
 
@@ -16,35 +16,12 @@ pub header-length : (mode : ℕ) (size : Size) → length (header mode size) ≡
 unfolding header words
 header-length mode size = refl
 
--- a word after words
-word-at : (done b : List ℕ) (at x : ℕ) {b1 b2 : List ℕ} → length done ≡ at
-    → b1 ≡ done ++ drop at b → b2 ≡ take at b1 ++ word x ++ drop (at + 4) b1 → b2 ≡ (done ++ word x) ++ drop (at + 4) b
-word-at done b at x e p q = then-at done (word x) b at 4 (at + 4) e refl p q
-
-pub header-written : (mode : ℕ) (size : Size) (b : List ℕ) {l h t : ℕ} {b1 b2 b3 b4 b5 b6 b7 b8 : List ℕ}
+pub header-written : (mode : ℕ) (size : Size) (b : List ℕ) {l h t : ℕ} {b1 : List ℕ}
     → l ≡ lowOffset (macroblocks size) → h ≡ highOffset (macroblocks size) → t ≡ total (macroblocks size)
-    → b1 ≡ take 0 b ++ word mode ++ drop 4 b → b2 ≡ take 4 b1 ++ word (size .width .0) ++ drop 8 b1
-    → b3 ≡ take 8 b2 ++ word (size .height .0) ++ drop 12 b2 → b4 ≡ take 12 b3 ++ word dcOffset ++ drop 16 b3
-    → b5 ≡ take 16 b4 ++ word l ++ drop 20 b4 → b6 ≡ take 20 b5 ++ word h ++ drop 24 b5
-    → b7 ≡ take 24 b6 ++ word t ++ drop 28 b6 → b8 ≡ take 28 b7 ++ word 0 ++ drop 32 b7
-    → b8 ≡ header mode size ++ drop headerBytes b
-unfolding header words
-header-written mode size b {l} {h} {t} el eh et p1 p2 p3 p4 p5 p6 p7 p8 =
-    let d1 = word mode in
-    let d2 = d1 ++ word (size .width .0) in
-    let d3 = d2 ++ word (size .height .0) in
-    let d4 = d3 ++ word dcOffset in
-    let d5 = d4 ++ word l in
-    let d6 = d5 ++ word h in
-    let d7 = d6 ++ word t in
-    let q1 = word-at [] b 0 mode refl refl p1 in
-    let q2 = word-at d1 b 4 (size .width .0) refl q1 p2 in
-    let q3 = word-at d2 b 8 (size .height .0) refl q2 p3 in
-    let q4 = word-at d3 b 12 dcOffset refl q3 p4 in
-    let q5 = word-at d4 b 16 l refl q4 p5 in
-    let q6 = word-at d5 b 20 h refl q5 p6 in
-    let q7 = word-at d6 b 24 t refl q6 p7 in
-    rw (← el, ← eh, ← et) (word-at d7 b 28 0 refl q7 p8)
+    → b1 ≡ take 0 b ++ words (mode ∷ size .width .0 ∷ size .height .0 ∷ dcOffset ∷ l ∷ h ∷ t ∷ 0 ∷ []) ++ drop headerBytes b
+    → b1 ≡ header mode size ++ drop headerBytes b
+unfolding header
+header-written mode size b el eh et p = rw (← el, ← eh, ← et) p
 
 -- what a plane is written behind
 behind : (done : List ℕ) (plane : List ℤ) (at next : ℕ) → length done ≡ at → at + 4 * length plane ≡ next → length (done ++ numbers plane) ≡ next

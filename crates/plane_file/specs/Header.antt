@@ -1,24 +1,30 @@
--- The header's eight words as they are read, and what reading them answers.
+-- The header's words as they are read, and what reading them answers.
 use Prim.Native.Nat.{ℕ, zero, suc}
 use mathlib.Core.List.{List}
+use lib.ListN.{getD}
 use Rattle.picture.specs.declared.size.Size.{Size}
 use Rattle.plane_file.specs.declared.header.Header.{Header}
 use Rattle.plane_file.specs.declared.header.Words.{Words}
-use Rattle.plane_file.specs.Words.{wordAt}
+use Rattle.plane_file.specs.Layout.{headerLength}
+use Rattle.plane_file.specs.Words.{wordAt, wordsAt}
 
--- the eight words, one after another
-abbrev pub wordsOf : List ℕ → Words
-wordsOf bytes =
+-- a header's words by their names, in their order
+abbrev pub byName : List ℕ → Words
+byName ws =
     record {
-      mode = wordAt bytes 0;
-      width = wordAt bytes 4;
-      height = wordAt bytes 8;
-      dc = wordAt bytes 12;
-      low = wordAt bytes 16;
-      high = wordAt bytes 20;
-      total = wordAt bytes 24;
-      last = wordAt bytes 28;
+      mode = getD ws 0 0;
+      width = getD ws 1 0;
+      height = getD ws 2 0;
+      dc = getD ws 3 0;
+      low = getD ws 4 0;
+      high = getD ws 5 0;
+      total = getD ws 6 0;
+      last = getD ws 7 0;
     }
+
+-- the words of a header, one after another from the first byte on
+abbrev pub wordsOf : List ℕ → Words
+wordsOf bytes = byName (wordsAt bytes 0 headerLength)
 
 -- the size that they say
 abbrev pub sizeOf : ℕ → ℕ → Size

@@ -6,9 +6,13 @@ use Rattle.picture.specs.Sizes.{macroblocks}
 use Rattle.picture.specs.Planes.{Planes, planes}
 use Rattle.plane_file.specs.Words.{words, numbers, numbersAt}
 
+-- the header's words
+abbrev pub headerLength : ℕ
+headerLength = 8
+
 -- the header's length in bytes; where each plane of a picture of n macroblocks starts; and the file's length
 abbrev pub headerBytes : ℕ
-headerBytes = 32
+headerBytes = 4 * headerLength
 
 abbrev pub dcOffset : ℕ
 dcOffset = headerBytes

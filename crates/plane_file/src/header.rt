@@ -1,11 +1,12 @@
-// The header of a plane file: its eight words, their checks and what they answer.
+// The header of a plane file: its words, their checks and what they answer.
 ghost use mathlib.Core.Path.{_≡_};
 ghost use Prim.Native.Nat.{_≤_};
 ghost use Rattle.picture.specs.Numbers.{firstOf};
-ghost use Rattle.plane_file.specs.Header.{sizeOf, headerOf, answer};
+ghost use Rattle.plane_file.specs.Header.{byName, sizeOf, headerOf, answer};
 ghost use Rattle.plane_file.specs.Calls.{headerAnswer};
 ghost use Rattle.plane_file.specs.Numbers.{misplaced as isMisplaced, wordChecks, startChecks};
 use crate::layout::HEADER_BYTES;
+use crate::layout::HEADER_WORDS;
 use crate::layout::high_offset;
 use crate::layout::low_offset;
 use crate::layout::total_bytes;
@@ -15,7 +16,7 @@ use picture::checks::check_shape;
 use picture::counts::Macroblocks;
 use picture::size::Size;
 
-// The eight words in their order; the last is to be zero.
+// The words in their order; the last is to be zero.
 pub struct Words {
     pub mode: u32,
     pub width: u32,
@@ -25,6 +26,22 @@ pub struct Words {
     pub high: u32,
     pub total: u32,
     pub last: u32,
+}
+
+// The words of a header by their names.
+fn named(words: [u32; HEADER_WORDS]) -> Words
+    ensures { λ r. ⌜ r ≡ byName words ⌝ }
+{
+    Words {
+        mode: words[0],
+        width: words[1],
+        height: words[2],
+        dc: words[3],
+        low: words[4],
+        high: words[5],
+        total: words[6],
+        last: words[7],
+    }
 }
 
 impl Words {
@@ -101,7 +118,7 @@ pub fn read_start(bytes: &[u8]) -> Header
     if bytes.len() < HEADER_BYTES as usize {
         return refused(9);
     }
-    let w = read_words(bytes);
+    let w = named(read_words(bytes));
     let number = check_words(w);
     if number != 0 {
         return refused(number);

@@ -4,8 +4,10 @@ ghost use Prim.Native.Nat.{_≤_};
 ghost use Rattle.plane_file.specs.Layout.{lowOffset, highOffset, total};
 use picture::counts::Macroblocks;
 
+pub const HEADER_WORDS: usize = 8;
+
 // The DC plane starts where the header ends.
-pub const HEADER_BYTES: u32 = 32;
+pub const HEADER_BYTES: u32 = 4 * HEADER_WORDS as u32;
 
 pub fn low_offset(n: Macroblocks) -> u32
     requires { ⌜ n .0 ≤ 216825 ⌝ }

@@ -2,9 +2,9 @@
 ghost use mathlib.Core.Path.{_≡_};
 ghost use Prim.Native.Nat.{_+_, _≤_};
 ghost use lib.ListN.{length};
-ghost use Rattle.plane_file.specs.Words.{wordAt};
-ghost use Rattle.plane_file.specs.Header.{wordsOf};
-use crate::header::Words;
+ghost use Rattle.plane_file.specs.Words.{wordAt, wordsAt};
+ghost use Rattle.plane_file.specs.Layout.{headerBytes, headerLength};
+use crate::layout::HEADER_WORDS;
 use crate::word::word_at;
 
 pub struct WordReader<'a> {
@@ -33,35 +33,18 @@ impl<'a> WordReader<'a> {
     }
 }
 
-// The eight words of a header, one after another.
-pub fn read_words(bytes: &[u8]) -> Words
-    requires { ⌜ 32 ≤ length (now bytes) ⌝ }
-    ensures { λ r. ⌜ r ≡ wordsOf (now (bytes .entry)) ⌝ }
+// The words of a header, one after another.
+pub fn read_words(bytes: &[u8]) -> [u32; HEADER_WORDS]
+    requires { ⌜ headerBytes ≤ length (now bytes) ⌝ }
+    ensures { λ r. ⌜ r ≡ wordsAt (now (bytes .entry)) 0 headerLength ⌝ }
 {
+    let mut words = [0; HEADER_WORDS];
     let mut r = WordReader { bytes, at: 0 };
-    let mode = r.word();
-    r = r.advanced();
-    let width = r.word();
-    r = r.advanced();
-    let height = r.word();
-    r = r.advanced();
-    let dc = r.word();
-    r = r.advanced();
-    let low = r.word();
-    r = r.advanced();
-    let high = r.word();
-    r = r.advanced();
-    let total = r.word();
-    r = r.advanced();
-    let last = r.word();
-    Words {
-        mode,
-        width,
-        height,
-        dc,
-        low,
-        high,
-        total,
-        last,
+    let mut i = 0;
+    while i < HEADER_WORDS {
+        words[i] = r.word();
+        r = r.advanced();
+        i += 1;
     }
+    words
 }

@@ -6,7 +6,7 @@ ghost use lib.ListN.{length, take, drop};
 ghost use Rattle.picture.specs.Sizes.{Sized, macroblocks};
 ghost use Rattle.picture.specs.Planes.{Lengths, planes};
 ghost use Rattle.picture.specs.Numbers.{firstOf, settled, planeChecks};
-ghost use Rattle.plane_file.specs.Words.{numbers};
+ghost use Rattle.plane_file.specs.Words.{words, numbers};
 ghost use Rattle.plane_file.specs.Layout.{headerBytes, total, header, file};
 ghost use Rattle.plane_file.specs.Numbers.{totalCheck, saveNumber};
 ghost use Rattle.plane_file.specs.Calls.{saved};
@@ -21,21 +21,35 @@ use picture::checks::check_planes;
 use picture::checks::check_shape;
 use picture::size::Size;
 
-// Writes the eight words.
+// Writes words one after another, from `at` on.
+fn save_words(ws: &[u32], bytes: &mut [u8], at: usize)
+    requires { ⌜ at + 4 * length (now ws) ≤ length (now bytes) ⌝ }
+    ensures { λ _. ⌜ now (bytes .exit) ≡
+        take at (now (bytes .entry)) ++ words (now (ws .entry)) ++ drop (at + 4 * length (now (ws .entry))) (now (bytes .entry)) ⌝ }
+{
+    for i in 0..ws.len() {
+        put_word(bytes, at + 4 * i, ws[i]);
+    }
+}
+
+// Writes the header's words.
 fn save_header(mode: u32, size: Size, bytes: &mut [u8])
     requires { ⌜ Sized size ⌝ }
     requires { ⌜ headerBytes ≤ length (now bytes) ⌝ }
     ensures { λ _. ⌜ now (bytes .exit) ≡ header mode size ++ drop headerBytes (now (bytes .entry)) ⌝ }
 {
     let n = size.macroblocks();
-    put_word(bytes, 0, mode);
-    put_word(bytes, 4, size.width.0);
-    put_word(bytes, 8, size.height.0);
-    put_word(bytes, 12, HEADER_BYTES);
-    put_word(bytes, 16, low_offset(n));
-    put_word(bytes, 20, high_offset(n));
-    put_word(bytes, 24, total_bytes(n));
-    put_word(bytes, 28, 0);
+    let ws = [
+        mode,
+        size.width.0,
+        size.height.0,
+        HEADER_BYTES,
+        low_offset(n),
+        high_offset(n),
+        total_bytes(n),
+        0,
+    ];
+    save_words(&ws, bytes, 0);
 }
 
 // Writes the numbers of a plane from `at` on.
