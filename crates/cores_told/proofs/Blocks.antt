@@ -13,15 +13,16 @@ use Rattle.lifting.proofs.Tests.{any-same}
 use Rattle.figures.specs.Figures.{core}
 use Rattle.figures.proofs.Growth.{core-grows}
 use Rattle.large_numbers.specs.Small.{AtMost}
-use Rattle.picture.specs.Level.{cores}
+use Rattle.transform.specs.Level.{cores}
 use Rattle.picture.specs.declared.size.Size.{Size}
 use Rattle.picture.specs.Sizes.{Sized, macroblocks}
-use Rattle.picture.specs.Planes.{table, coefficients, blockOrder, firstGrid, secondGrid}
-use Rattle.picture.proofs.Geometry.{order-low, block-of-order}
-use Rattle.picture.proofs.Grid.{at-first}
+use Rattle.picture.specs.Table.{table}
+use Rattle.transform.specs.Grids.{coefficients, blockOrder, firstGrid, secondGrid}
+use Rattle.transform.proofs.Geometry.{order-low, block-of-order}
+use Rattle.transform.proofs.Grid.{at-first}
 use Rattle.picture.proofs.Table.{length-table}
-use Rattle.picture.proofs.NoWrap.{within-table}
-use Rattle.picture.proofs.Told.{cores-of-grid}
+use Rattle.transform.proofs.NoWrap.{within-table}
+use Rattle.transform.proofs.Told.{cores-of-grid}
 
 -- a block by its coefficient 0 and by the plane and the place of the others
 abbrev pub blockWraps : ℤ → List ℤ → ℕ → Bool

@@ -7,7 +7,7 @@ use lib.ListN.{length}
 use borrow.Author.Tests.{ltb-false, lt-ltb, le-ltb, eq-eqb}
 use Rattle.picture.specs.Numbers.{firstOf, settled, shapeChecks, planeChecks, sampleCheck, inverseNumber}
 use Rattle.picture.specs.Planes.{Planes, Lengths}
-use Rattle.picture.specs.Transform.{inverse}
+use Rattle.transform.specs.Transform.{inverse}
 use Rattle.picture.proofs.NumberLaws.{passed-first, settled-done}
 use Rattle.plane_file.specs.declared.header.Header.{Header}
 use Rattle.plane_file.specs.Words.{wordAt}

@@ -14,7 +14,7 @@ use Rattle.picture.specs.Sizes.{Sized, macroblocks}
 use Rattle.picture.specs.Modes.{modeOf}
 use Rattle.picture.specs.Planes.{PlanesOf}
 use Rattle.picture.proofs.NumberLaws.{settled-done, settled-refused}
-use Rattle.picture.proofs.OnePlanes.{row-inverse}
+use Rattle.transform.proofs.OnePlanes.{row-inverse}
 use Rattle.picture.proofs.Table.{row-table}
 use Rattle.plane_file.specs.declared.header.Header.{Header}
 use Rattle.plane_file.specs.Words.{wordAt, numbersAt}

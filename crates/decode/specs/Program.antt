@@ -6,7 +6,7 @@ use lib.IntN.{ℤ}
 use lib.ListN.{length, drop}
 use Rattle.picture.specs.Numbers.{_if_, firstOf, settled}
 use Rattle.picture.specs.Planes.{Planes}
-use Rattle.picture.specs.Transform.{inverse}
+use Rattle.transform.specs.Transform.{inverse}
 use Rattle.plane_file.specs.Words.{wordAt}
 use Rattle.plane_file.specs.Header.{sizeIn}
 use Rattle.plane_file.specs.Layout.{planesIn}

@@ -13,8 +13,8 @@ use Rattle.lifting.proofs.Between.{All}
 use Rattle.lifting.proofs.Calm.{within-get}
 use Rattle.figures.specs.Figures.{squareFilter}
 use Rattle.figures.proofs.Growth.{square-filter-undone-grows}
-use Rattle.picture.specs.Level.{strip, square, squareFilterAt}
-use Rattle.picture.proofs.Cells.{all-strip, all-square}
+use Rattle.transform.specs.Level.{strip, square, squareFilterAt}
+use Rattle.transform.proofs.Cells.{all-strip, all-square}
 use Rattle.large_numbers.specs.Small.{AtMost}
 
 module _ (v : List ℤ) where

@@ -6,7 +6,7 @@ ghost use lib.ListN.{length};
 ghost use Rattle.lifting.specs.Program.{each};
 ghost use Rattle.lifting.specs.Wraps.{undoWraps};
 ghost use Rattle.lifting.specs.AnyUse.{anyUse};
-ghost use Rattle.picture.specs.Level.{cell, squareFilterAt, fourFilterAt, cornerFilterAt, squareFilters, rowFilters, columnFilters, alongEdges, cornerFilters, filtersIf, filters as filterProgram};
+ghost use Rattle.transform.specs.Level.{cell, squareFilterAt, fourFilterAt, cornerFilterAt, squareFilters, rowFilters, columnFilters, alongEdges, cornerFilters, filtersIf, filters as filterProgram};
 use four_filter::unfiltered_wraps;
 use grid::get_corner;
 use grid::get_four;

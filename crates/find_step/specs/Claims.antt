@@ -6,8 +6,7 @@ use mathlib.Core.List.{List}
 use lib.IntN.{ℤ}
 use Rattle.lifting.specs.Row.{Row}
 use Rattle.picture.specs.declared.size.Size.{Size}
-use Rattle.picture.specs.Sizes.{macroblocks}
-use Rattle.picture.specs.Claims.{Shape}
+use Rattle.picture.specs.Sizes.{macroblocks, Shape}
 use Rattle.tries.specs.Tries.{passes, triedSamples}
 use Rattle.find_step.specs.FindStep.{Answer}
 

@@ -6,11 +6,10 @@ use native.Mathlib.Omega.{arith}
 use lib.IntN.{ℤ}
 use lib.ListN.{length}
 use Rattle.picture.specs.declared.size.Size.{Size}
-use Rattle.picture.specs.Sizes.{macroblocks}
+use Rattle.picture.specs.Sizes.{macroblocks, Shape}
 use Rattle.picture.specs.Modes.{modeOf}
 use Rattle.picture.specs.Planes.{Planes, Lengths}
 use Rattle.picture.specs.Numbers.{shapeChecks, planeChecks, sampleCheck, inverseNumber}
-use Rattle.picture.specs.Claims.{Shape}
 use Rattle.picture.proofs.NumberLaws.{settled-done}
 use Rattle.picture.proofs.CheckLaws.{all-pass, pass-all, passes, like, shape-passes, planes-fit}
 use Rattle.forecast.specs.declared.Work.{Work}

@@ -14,7 +14,7 @@ use Rattle.figures.specs.Figures.{core, coreStages, hadamard, odd, oddOdd, rota
 use Rattle.forecast.specs.declared.LevelUses.{LevelUses}
 use Rattle.forecast.specs.Claims.{levelCounts, LevelClaim}
 use Rattle.forecast.specs.Parts.{usesIn, Squares, Few}
-use Rattle.picture.specs.Level.{coreAt, squareFilterAt, fourFilterAt, cornerFilterAt, cores, squareFilters, rowFilters, columnFilters, alongEdges, cornerFilters, filters, level}
+use Rattle.transform.specs.Level.{coreAt, squareFilterAt, fourFilterAt, cornerFilterAt, cores, squareFilters, rowFilters, columnFilters, alongEdges, cornerFilters, filters, level}
 
 -- ---- any operator
 

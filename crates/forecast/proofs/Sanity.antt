@@ -7,10 +7,11 @@ use lib.IntN.{ℤ, pos}
 use Rattle.lifting.specs.Program.{Hadamard, Odd, OddOdd, Rotation, Scale, PostHadamard, PostOddOdd, Core, FourFilter, SquareFilter, _then_, each}
 use Rattle.lifting.specs.OperatorUses.{uses}
 use Rattle.figures.specs.Figures.{core, coreStages, hadamard, odd, oddOdd, rotation, scale, postHadamard, postOddOdd, fourFilter, squareFilter}
-use Rattle.picture.specs.Level.{square, coreAt, squareFilterAt, fourFilterAt, cornerFilterAt, cores, squareFilters, rowFilters, columnFilters, cornerFilters, filters, level}
-use Rattle.picture.specs.Planes.{table, planes}
+use Rattle.transform.specs.Level.{square, coreAt, squareFilterAt, fourFilterAt, cornerFilterAt, cores, squareFilters, rowFilters, columnFilters, cornerFilters, filters, level}
+use Rattle.picture.specs.Table.{table}
+use Rattle.picture.specs.Planes.{planes}
 use Rattle.picture.specs.Numbers.{inverseNumber}
-use Rattle.picture.proofs.Sanity.{of}
+use Rattle.transform.proofs.Sanity.{of}
 use Rattle.forecast.specs.declared.Work.{Work}
 use Rattle.forecast.specs.Forecast.{workBy, noWork, forecastNumber, forecastAnswer}
 

@@ -9,11 +9,11 @@ use Rattle.lifting.specs.Program.{Core, SquareFilter, FourFilter}
 use Rattle.lifting.specs.OperatorUses.{uses}
 use Rattle.picture.specs.declared.size.Size.{Size}
 use Rattle.picture.specs.Modes.{modeOf}
-use Rattle.picture.specs.Level.{level}
+use Rattle.transform.specs.Level.{level}
 use Rattle.picture.specs.Planes.{Planes}
-use Rattle.picture.specs.Transform.{levelOne, levelTwo}
+use Rattle.transform.specs.Transform.{levelOne, levelTwo}
 use Rattle.picture.specs.Numbers.{inverseNumber}
-use Rattle.picture.specs.Claims.{Shape}
+use Rattle.picture.specs.Sizes.{Shape}
 use Rattle.forecast.specs.declared.LevelUses.{LevelUses}
 use Rattle.forecast.specs.Forecast.{forecastAnswer}
 use Rattle.forecast.specs.Parts.{usesIn}

@@ -6,7 +6,7 @@ use Rattle.picture.specs.declared.mode.Mode.{Mode}
 use Rattle.picture.specs.declared.size.Size.{Size}
 use Rattle.picture.specs.Sizes.{macroblocks}
 use Rattle.picture.specs.Modes.{modeOf}
-use Rattle.picture.specs.Transform.{levelOne, levelTwo}
+use Rattle.transform.specs.Transform.{levelOne, levelTwo}
 use Rattle.picture.specs.Numbers.{firstOf, settled, shapeChecks}
 use Rattle.forecast.specs.declared.Work.{Work}
 

@@ -1,7 +1,7 @@
 // The forecast: how much work a picture will be, from its mode and its size alone.
 ghost use mathlib.Core.Path.{_≡_};
 ghost use Rattle.picture.specs.Sizes.{Sized};
-ghost use Rattle.picture.specs.Level.{level};
+ghost use Rattle.transform.specs.Level.{level};
 ghost use Rattle.forecast.specs.Forecast.{workBy, forecastAnswer};
 ghost use Rattle.forecast.specs.Parts.{usesIn, Squares, Few};
 use picture::checks::Checked;

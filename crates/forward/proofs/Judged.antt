@@ -7,9 +7,9 @@ use lib.IntN.{ℤ}
 use Rattle.lifting.specs.Program.{undo}
 use Rattle.lifting.specs.Row.{Row}
 use Rattle.lifting.specs.Wraps.{wraps, undoWraps, Within}
-use Rattle.picture.specs.Level.{cores, filtersIf, level}
-use Rattle.picture.proofs.NoWrap.{level-undone-calm}
-use Rattle.picture.proofs.Told.{level-untold}
+use Rattle.transform.specs.Level.{cores, filtersIf, level}
+use Rattle.transform.proofs.NoWrap.{level-undone-calm}
+use Rattle.transform.proofs.Told.{level-untold}
 
 module _ (filtered : Bool) {p q : ℕ} (wide : 0 < p) (tall : 0 < q) {v : List ℤ} where
   -- no number is large

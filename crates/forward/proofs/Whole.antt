@@ -10,11 +10,12 @@ use Rattle.lifting.specs.Wraps.{undoWraps}
 use Rattle.picture.specs.declared.mode.Mode.{Mode}
 use Rattle.picture.specs.declared.size.Size.{Size}
 use Rattle.picture.specs.Sizes.{Sized, macroblocks}
-use Rattle.picture.specs.Planes.{Lengths, planes, grid, firstGrid, secondGrid, viewOf}
-use Rattle.picture.specs.Transform.{levelOne, levelTwo, secondUndone, firstUndone, forwardBy}
-use Rattle.picture.specs.Wraps.{forwardWrapsBy}
+use Rattle.picture.specs.Planes.{Lengths, planes}
+use Rattle.transform.specs.Grids.{grid, firstGrid, secondGrid, viewOf}
+use Rattle.transform.specs.Transform.{levelOne, levelTwo, secondUndone, firstUndone, forwardBy}
+use Rattle.transform.specs.Wraps.{forwardWrapsBy}
 use Rattle.picture.proofs.Table.{length-table}
-use Rattle.picture.proofs.Grid.{dc-of-first, low-of-first, view-of-second, high-of-second}
+use Rattle.transform.proofs.Grid.{dc-of-first, low-of-first, view-of-second, high-of-second}
 
 -- ---- both levels: a and l after level two with h, and a′ and l′ after level one
 

@@ -8,7 +8,7 @@ use lib.IntN.{ℤ}
 use Rattle.lifting.specs.Program.{at, get, undo, undoBy}
 use Rattle.lifting.proofs.Reverse.{length-put}
 use Rattle.figures.specs.Figures.{squareFilter}
-use Rattle.picture.specs.Level.{square}
+use Rattle.transform.specs.Level.{square}
 use Rattle.picture.proofs.Table.{same-lists}
 use Rattle.lanes.specs.Lanes.{Placed}
 use Rattle.lanes.proofs.Rows.{square-at}

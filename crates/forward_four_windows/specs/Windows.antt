@@ -6,7 +6,7 @@ use lib.ListN.{length}
 use lib.IntN.{ℤ}
 use Rattle.lifting.specs.Program.{at, get, undo}
 use Rattle.figures.specs.Figures.{squareFilter}
-use Rattle.picture.specs.Level.{square}
+use Rattle.transform.specs.Level.{square}
 use Rattle.lanes.specs.Lanes.{Outside}
 
 -- the window whose first number stands at place i of a grid of w columns, its filter undone

@@ -5,7 +5,7 @@ ghost use Prim.Native.Nat.{ℕ, _+_, _*_, _<_};
 ghost use lib.ListN.{length};
 ghost use Rattle.lifting.specs.Program.{undo, get};
 ghost use Rattle.figures.specs.Figures.{squareFilter};
-ghost use Rattle.picture.specs.Level.{square};
+ghost use Rattle.transform.specs.Level.{square};
 ghost use Rattle.lanes.specs.Lanes.{laneOf, Placed};
 ghost use Rattle.forward_four_windows.specs.Windows.{Windows};
 use grid::put_square;

@@ -15,8 +15,9 @@ use Rattle.lifting.proofs.Bits.{back}
 use Rattle.figures.specs.Block.{four, flat}
 use Rattle.figures.specs.Figures.{core}
 use Rattle.figures.proofs.Parts.{kept}
-use Rattle.picture.specs.Level.{strip, square}
-use Rattle.picture.specs.Planes.{table, coefficients}
+use Rattle.transform.specs.Level.{strip, square}
+use Rattle.picture.specs.Table.{table}
+use Rattle.transform.specs.Grids.{coefficients}
 use Rattle.picture.proofs.Table.{table-is, table-same}
 use Rattle.forward_kernel.specs.Placed.{Placed, InLane, Undone, undoneAt}
 

@@ -6,8 +6,9 @@ use lib.ListN.{length}
 use lib.IntN.{ℤ}
 use Rattle.lifting.specs.Program.{at, get, undo}
 use Rattle.figures.specs.Figures.{core}
-use Rattle.picture.specs.Level.{square}
-use Rattle.picture.specs.Planes.{table, coefficients}
+use Rattle.transform.specs.Level.{square}
+use Rattle.picture.specs.Table.{table}
+use Rattle.transform.specs.Grids.{coefficients}
 
 -- in a list of the same length, the n numbers from place i on are f 0 to f (n - 1), and all others what they were
 pub record Placed (i n : ℕ) (f : ℕ → ℤ) (old new : List ℤ) : Type 0 where

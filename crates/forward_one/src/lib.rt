@@ -3,7 +3,7 @@ ghost use mathlib.Core.Path.{_≡_};
 ghost use Prim.Native.Nat.{_*_};
 ghost use lib.ListN.{length};
 ghost use Rattle.lifting.specs.Program.{undo};
-ghost use Rattle.picture.specs.Level.{level};
+ghost use Rattle.transform.specs.Level.{level};
 ghost use Rattle.picture.specs.Sizes.{macroblocks, Sized};
 ghost use Rattle.forward_one_grid.specs.Held.{numbers, over};
 use forward_one_cores::undo_cores;

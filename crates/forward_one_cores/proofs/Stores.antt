@@ -10,8 +10,8 @@ use lib.Seq.{getD-set-same, getD-set-other}
 use lib.IntN.{ℤ, pos}
 use Rattle.lifting.specs.Program.{at, get, undo, undoBy}
 use Rattle.figures.specs.Figures.{core}
-use Rattle.picture.specs.Level.{square}
-use Rattle.picture.specs.Planes.{coefficients}
+use Rattle.transform.specs.Level.{square}
+use Rattle.transform.specs.Grids.{coefficients}
 use Rattle.picture.proofs.Table.{length-table}
 use Rattle.forward_kernel.specs.Placed.{Placed, undoneAt, blockIn}
 use Rattle.forward_kernel.proofs.Stores.{same-block, block-is}

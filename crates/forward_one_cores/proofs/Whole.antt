@@ -9,12 +9,12 @@ use Rattle.lifting.specs.Program.{at, get, undo, undoBy}
 use Rattle.lifting.proofs.Reverse.{length-put}
 use Rattle.lifting.proofs.Locality.{agree-refl}
 use Rattle.figures.specs.Figures.{core}
-use Rattle.picture.specs.Level.{cell, square, coreAt, cores}
-use Rattle.picture.specs.Planes.{coefficients, firstGrid}
+use Rattle.transform.specs.Level.{cell, square, coreAt, cores}
+use Rattle.transform.specs.Grids.{coefficients, firstGrid}
 use Rattle.picture.proofs.Table.{at-table, table-same}
-use Rattle.picture.proofs.Grid.{grid-is, length-grid, at-first}
-use Rattle.picture.proofs.Squares.{square-places}
-use Rattle.picture.proofs.Alone.{core-alone, core-undone-at}
+use Rattle.transform.proofs.Grid.{grid-is, length-grid, at-first}
+use Rattle.transform.proofs.Squares.{square-places}
+use Rattle.transform.proofs.Alone.{core-alone, core-undone-at}
 use Rattle.forward_kernel.specs.Placed.{blockIn}
 
 module _ {W : ℕ} (wide : 0 < W) (H : ℕ) (tall : 0 < H) (dc low : List ℤ) where

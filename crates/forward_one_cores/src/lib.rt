@@ -5,7 +5,7 @@ ghost use lib.ListN.{length};
 ghost use Rattle.lifting.specs.Program.{undo, get};
 ghost use Rattle.figures.specs.Block.{flat};
 ghost use Rattle.figures.specs.Figures.{core};
-ghost use Rattle.picture.specs.Level.{square, cores};
+ghost use Rattle.transform.specs.Level.{square, cores};
 ghost use Rattle.forward_one_grid.specs.Held.{numbers, over, Held};
 ghost use Rattle.forward_kernel.specs.Placed.{blockIn};
 ghost use Rattle.forward_one_cores.specs.Blocks.{Room, Replaced};

@@ -10,8 +10,8 @@ use Rattle.lifting.proofs.Between.{all-map}
 use Rattle.lifting.proofs.Locality.{agree-refl, get-same, put-keeps}
 use Rattle.figures.specs.Figures.{squareFilter}
 use Rattle.picture.specs.declared.size.Size.{Size}
-use Rattle.picture.specs.Level.{square, squareFilterAt}
-use Rattle.picture.proofs.Cells.{InCell, square-filter-in-cell}
+use Rattle.transform.specs.Level.{square, squareFilterAt}
+use Rattle.transform.proofs.Cells.{InCell, square-filter-in-cell}
 use Rattle.forward_four_windows.specs.Windows.{Windows}
 use Rattle.forward_four_windows.proofs.Moved.{window-of}
 use Rattle.forward_one_grid.specs.Held.{numbers, window}

@@ -11,7 +11,7 @@ use Rattle.lifting.specs.Program.{Program, end, apply, FourFilter, undo, each, 
 use Rattle.lifting.proofs.Compose.{undo-then}
 use Rattle.figures.specs.Figures.{fourFilter}
 use Rattle.picture.specs.declared.size.Size.{Size}
-use Rattle.picture.specs.Level.{cell, fourFilterAt, cornerFilterAt, squareFilters, rowFilters, columnFilters, alongEdges, cornerFilters, filters}
+use Rattle.transform.specs.Level.{cell, fourFilterAt, cornerFilterAt, squareFilters, rowFilters, columnFilters, alongEdges, cornerFilters, filters}
 use Rattle.picture.specs.Sizes.{Sized}
 use Rattle.picture.proofs.CheckLaws.{few-macroblocks}
 use Rattle.grid.proofs.Rows.{row-inside, row-above}

@@ -2,7 +2,7 @@
 use Prim.Native.Nat.{ℕ, _+_, _-_, _*_}
 use Rattle.lifting.specs.Program.{Program, each}
 use Rattle.picture.specs.declared.size.Size.{Size}
-use Rattle.picture.specs.Level.{squareFilterAt}
+use Rattle.transform.specs.Level.{squareFilterAt}
 use Rattle.forward_one_grid.specs.Held.{windowStart}
 
 -- Figure 4.14 on window (j, i)

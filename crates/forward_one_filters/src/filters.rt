@@ -2,7 +2,7 @@
 ghost use mathlib.Core.Path.{_≡_};
 ghost use Prim.Native.Nat.{_+_, _*_, _<_};
 ghost use Rattle.lifting.specs.Program.{undo};
-ghost use Rattle.picture.specs.Level.{squareFilters, filters};
+ghost use Rattle.transform.specs.Level.{squareFilters, filters};
 ghost use Rattle.picture.specs.Sizes.{macroblocks};
 ghost use Rattle.forward_one_grid.specs.Held.{numbers, over, Held};
 ghost use Rattle.forward_one_filters.specs.Edges.{line, edges, corners};

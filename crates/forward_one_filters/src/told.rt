@@ -3,7 +3,7 @@ ghost use mathlib.Core.Path.{_≡_};
 ghost use Prim.Native.Nat.{_+_, _*_, _<_};
 ghost use Rattle.lifting.specs.Wraps.{undoWraps};
 ghost use Rattle.lifting.specs.AnyUse.{anyUse};
-ghost use Rattle.picture.specs.Level.{squareFilters, filtersIf, filters as filterProgram};
+ghost use Rattle.transform.specs.Level.{squareFilters, filtersIf, filters as filterProgram};
 ghost use Rattle.picture.specs.Sizes.{macroblocks};
 ghost use Rattle.forward_one_grid.specs.Held.{numbers, over, Held};
 ghost use Rattle.forward_one_filters.specs.Edges.{filterOf, line, edges, corners};

@@ -4,7 +4,7 @@ ghost use Prim.Native.Nat.{ℕ, _+_, _*_, _<_, _≤_};
 ghost use lib.ListN.{length};
 ghost use Rattle.lifting.specs.Program.{get, undo};
 ghost use Rattle.figures.specs.Figures.{squareFilter};
-ghost use Rattle.picture.specs.Level.{square};
+ghost use Rattle.transform.specs.Level.{square};
 ghost use Rattle.forward_one_grid.specs.Held.{numbers, Held, window};
 ghost use Rattle.forward_one_filters.specs.Windows.{filtersOn};
 use forward_four_windows::undo_four_windows;

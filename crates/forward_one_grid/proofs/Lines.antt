@@ -13,8 +13,8 @@ use Rattle.lifting.proofs.Bits.{back}
 use Rattle.figures.specs.Block.{four, flat}
 use Rattle.figures.proofs.Parts.{kept}
 use Rattle.picture.specs.declared.size.Size.{Size}
-use Rattle.picture.specs.Level.{cell, strip, square, corner}
-use Rattle.picture.specs.Planes.{place}
+use Rattle.transform.specs.Level.{cell, strip, square, corner}
+use Rattle.transform.specs.Grids.{place}
 use Rattle.picture.specs.Sizes.{macroblocks, Sized}
 use Rattle.picture.proofs.CheckLaws.{few}
 use Rattle.grid.proofs.Squares.{square-read, square-stored}

@@ -8,9 +8,9 @@ use lib.ListN.{length, set, length-set}
 use lib.Seq.{getD-set-same, getD-set-other}
 use lib.IntN.{ℤ, pos}
 use Rattle.lifting.specs.Program.{at}
-use Rattle.picture.specs.Planes.{squareOf, coefficientOf, place, grid, coefficients, firstGrid}
-use Rattle.picture.proofs.Geometry.{square-of-place, coefficient-of-place, place-low}
-use Rattle.picture.proofs.Grid.{at-grid, at-first, grid-is, length-grid}
+use Rattle.transform.specs.Grids.{squareOf, coefficientOf, place, grid, coefficients, firstGrid}
+use Rattle.transform.proofs.Geometry.{square-of-place, coefficient-of-place, place-low}
+use Rattle.transform.proofs.Grid.{at-grid, at-first, grid-is, length-grid}
 
 back-one : (k : ℕ) → suc k - 1 ≡ k
 back-one k = omega arith

@@ -7,8 +7,8 @@ use lib.ListN.{length}
 use lib.IntN.{ℤ}
 use Rattle.picture.specs.declared.size.Size.{Size}
 use Rattle.lifting.specs.Program.{Program}
-use Rattle.picture.specs.Level.{cell, square}
-use Rattle.picture.specs.Planes.{place, firstGrid}
+use Rattle.transform.specs.Level.{cell, square}
+use Rattle.transform.specs.Grids.{place, firstGrid}
 use Rattle.picture.specs.Sizes.{macroblocks, Sized}
 
 abbrev pub numbers : Size → List ℤ → List ℤ → List ℤ

@@ -4,7 +4,7 @@ ghost use Prim.Native.Nat.{_+_, _*_, _<_, _≤_};
 ghost use lib.ListN.{set};
 ghost use Rattle.lifting.specs.Program.{at, get, put};
 ghost use Rattle.figures.specs.Block.{four};
-ghost use Rattle.picture.specs.Planes.{place};
+ghost use Rattle.transform.specs.Grids.{place};
 ghost use Rattle.picture.specs.Sizes.{macroblocks};
 ghost use Rattle.forward_one_grid.specs.Held.{numbers, Held, pairs};
 use picture::size::Size;

@@ -12,8 +12,8 @@ use lib.Seq.{getD-set-same, getD-set-other}
 use lib.IntN.{ℤ, pos}
 use Rattle.lifting.specs.Program.{at, get, undo}
 use Rattle.figures.specs.Figures.{core}
-use Rattle.picture.specs.Level.{cell, square}
-use Rattle.picture.specs.Planes.{blockAt}
+use Rattle.transform.specs.Level.{cell, square}
+use Rattle.transform.specs.Grids.{blockAt}
 use Rattle.picture.specs.Sizes.{macroblocks}
 use Rattle.picture.specs.declared.size.Size.{Size}
 use Rattle.picture.proofs.Table.{same-lists}

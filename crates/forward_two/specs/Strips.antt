@@ -6,7 +6,7 @@ use lib.ListN.{length}
 use lib.IntN.{ℤ}
 use Rattle.lifting.specs.Program.{at, undo}
 use Rattle.figures.specs.Figures.{core}
-use Rattle.picture.specs.Level.{cell}
+use Rattle.transform.specs.Level.{cell}
 use Rattle.picture.specs.Sizes.{macroblocks, Sized}
 use Rattle.picture.specs.declared.size.Size.{Size}
 use Rattle.forward_two_cores.specs.Blocks.{squareIn, Among}

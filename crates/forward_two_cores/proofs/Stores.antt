@@ -12,8 +12,8 @@ use lib.IntN.{ℤ, pos}
 use Rattle.lifting.specs.Program.{at, get, put, undo, undoBy}
 use Rattle.figures.specs.Block.{four}
 use Rattle.figures.specs.Figures.{core}
-use Rattle.picture.specs.Level.{strip, square}
-use Rattle.picture.specs.Planes.{blockAt}
+use Rattle.transform.specs.Level.{strip, square}
+use Rattle.transform.specs.Grids.{blockAt}
 use Rattle.grid.proofs.Rows.{row-inside}
 use Rattle.forward_kernel.specs.Placed.{Placed, undoneAt, blockIn}
 use Rattle.forward_kernel.proofs.Stores.{same-block, block-is, placed-after, four-placed}

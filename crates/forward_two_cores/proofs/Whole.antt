@@ -10,12 +10,13 @@ use Rattle.lifting.specs.Program.{at, get, undo, undoBy}
 use Rattle.lifting.proofs.Reverse.{length-put}
 use Rattle.lifting.proofs.Locality.{agree-refl}
 use Rattle.figures.specs.Figures.{core}
-use Rattle.picture.specs.Level.{cell, square, coreAt, cores}
-use Rattle.picture.specs.Planes.{table, place, grid, coefficients, blockOrder, firstGrid, secondGrid}
+use Rattle.transform.specs.Level.{cell, square, coreAt, cores}
+use Rattle.picture.specs.Table.{table}
+use Rattle.transform.specs.Grids.{place, grid, coefficients, blockOrder, firstGrid, secondGrid}
 use Rattle.picture.proofs.Table.{at-table}
-use Rattle.picture.proofs.Geometry.{block-of-order, order-low}
-use Rattle.picture.proofs.Grid.{grid-is, at-first}
-use Rattle.picture.proofs.Alone.{core-alone, core-undone-at}
+use Rattle.transform.proofs.Geometry.{block-of-order, order-low}
+use Rattle.transform.proofs.Grid.{grid-is, at-first}
+use Rattle.transform.proofs.Alone.{core-alone, core-undone-at}
 use Rattle.forward_kernel.specs.Placed.{blockIn}
 use Rattle.forward_two_cores.specs.Blocks.{blockOf, squareIn}
 use Rattle.forward_kernel.proofs.Stores.{same-block}

@@ -5,8 +5,9 @@ use mathlib.Core.List.{List}
 use lib.IntN.{ℤ}
 use lib.ListN.{length}
 use Rattle.lifting.specs.Program.{at, get}
-use Rattle.picture.specs.Level.{cell, square}
-use Rattle.picture.specs.Planes.{table, coefficients, blockAt}
+use Rattle.transform.specs.Level.{cell, square}
+use Rattle.picture.specs.Table.{table}
+use Rattle.transform.specs.Grids.{coefficients, blockAt}
 use Rattle.forward_kernel.specs.Placed.{blockIn, undoneAt}
 
 -- block t, in the order of the high-pass plane; the coefficients 0 of a macroblock's sixteen blocks are its DC and low-pass numbers, as a block of level one

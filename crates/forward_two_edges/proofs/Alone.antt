@@ -10,9 +10,9 @@ use Rattle.lifting.specs.Program.{Program, end, apply, SquareFilter, FourFilter
 use Rattle.lifting.proofs.Between.{All, none-left}
 use Rattle.lifting.proofs.Locality.{Agree, use-inside, use-outside}
 use Rattle.figures.specs.Figures.{squareFilter, fourFilter}
-use Rattle.picture.specs.Level.{cell, strip, square, corner, squareFilterAt, fourFilterAt, cornerFilterAt, squareFilters, rowFilters, columnFilters, alongEdges, cornerFilters, filters}
-use Rattle.picture.proofs.Cells.{all-strip, all-square}
-use Rattle.picture.proofs.Alone.{Does, nothing-then, then-nothing, one-of}
+use Rattle.transform.specs.Level.{cell, strip, square, corner, squareFilterAt, fourFilterAt, cornerFilterAt, squareFilters, rowFilters, columnFilters, alongEdges, cornerFilters, filters}
+use Rattle.transform.proofs.Cells.{all-strip, all-square}
+use Rattle.transform.proofs.Alone.{Does, nothing-then, then-nothing, one-of}
 use Rattle.forward_two_edges.specs.Unfiltered.{Rectangle, Edge, First}
 
 -- ---- places of a use by row and column

@@ -16,11 +16,11 @@ use Rattle.lifting.proofs.Reverse.{get-put, length-put}
 use Rattle.lifting.proofs.Between.{All}
 use Rattle.lifting.proofs.Locality.{agree-refl, get-same}
 use Rattle.figures.specs.Figures.{squareFilter, fourFilter}
-use Rattle.picture.specs.Level.{cell, strip, square, corner, squareFilterAt, fourFilterAt, cornerFilterAt, filters}
+use Rattle.transform.specs.Level.{cell, strip, square, corner, squareFilterAt, fourFilterAt, cornerFilterAt, filters}
 use Rattle.picture.proofs.Table.{at-table}
-use Rattle.picture.proofs.Squares.{get-sixteen, square-is}
-use Rattle.picture.proofs.Levels.{square-inside, row-strip-inside, column-strip-inside, corner-inside}
-use Rattle.picture.proofs.Alone.{Does}
+use Rattle.transform.proofs.Squares.{get-sixteen, square-is}
+use Rattle.transform.proofs.Levels.{square-inside, row-strip-inside, column-strip-inside, corner-inside}
+use Rattle.transform.proofs.Alone.{Does}
 use Rattle.forward_kernel.proofs.Stores.{below-four}
 use Rattle.forward_two_edges.specs.Unfiltered.{Rectangle, Edge, First}
 use Rattle.forward_two_edges.proofs.Alone.{first-inside, square-within, row-within, column-within, corner-within, square-alone, row-alone, column-alone, corner-alone}

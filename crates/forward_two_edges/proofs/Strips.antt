@@ -14,10 +14,10 @@ use Rattle.lifting.proofs.Reverse.{get-put, length-put}
 use Rattle.lifting.proofs.Locality.{agree-refl, put-keeps}
 use Rattle.figures.specs.Block.{four}
 use Rattle.figures.specs.Figures.{fourFilter}
-use Rattle.picture.specs.Level.{cell, strip as line, corner, filters}
+use Rattle.transform.specs.Level.{cell, strip as line, corner, filters}
 use Rattle.picture.specs.Sizes.{macroblocks, Sized}
 use Rattle.picture.specs.declared.size.Size.{Size}
-use Rattle.picture.proofs.Levels.{corner-places}
+use Rattle.transform.proofs.Levels.{corner-places}
 use Rattle.picture.proofs.CheckLaws.{few-macroblocks}
 use Rattle.grid.proofs.Rows.{row-inside}
 use Rattle.forward_kernel.proofs.Stores.{below-four}

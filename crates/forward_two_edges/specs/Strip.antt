@@ -7,7 +7,7 @@ use lib.ListN.{length}
 use lib.IntN.{ℤ}
 use Rattle.lifting.specs.Program.{at, get, undo}
 use Rattle.figures.specs.Figures.{fourFilter}
-use Rattle.picture.specs.Level.{cell, strip as line}
+use Rattle.transform.specs.Level.{cell, strip as line}
 use Rattle.picture.specs.Sizes.{macroblocks, Sized}
 use Rattle.picture.specs.declared.size.Size.{Size}
 use Rattle.forward_two_edges.specs.Unfiltered.{unfiltered}

@@ -5,7 +5,7 @@ use mathlib.Core.List.{List}
 use mathlib.Core.Logic.{_⊎_}
 use lib.IntN.{ℤ}
 use Rattle.lifting.specs.Program.{undo}
-use Rattle.picture.specs.Level.{filters}
+use Rattle.transform.specs.Level.{filters}
 use Rattle.picture.specs.declared.size.Size.{Size}
 
 unfoldable pub unfiltered : Size → List ℤ → List ℤ

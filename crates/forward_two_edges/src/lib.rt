@@ -3,7 +3,7 @@ ghost use mathlib.Core.Path.{_≡_};
 ghost use Prim.Native.Nat.{ℕ, _+_, _*_, _/_, _%_, _<_, _≤_};
 ghost use lib.ListN.{length};
 ghost use Rattle.lifting.specs.Program.{at as number};
-ghost use Rattle.picture.specs.Level.{cell};
+ghost use Rattle.transform.specs.Level.{cell};
 ghost use Rattle.forward_two_edges.specs.Unfiltered.{Edge, First};
 ghost use Rattle.forward_two_edges.specs.Strip.{Holds, Kept, Given, Rows, Spread, Columns, unfilteredAt};
 use four_filter::unfiltered;

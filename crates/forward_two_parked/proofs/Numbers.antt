@@ -10,8 +10,8 @@ use lib.Seq.{getD-set-same, getD-set-other}
 use lib.IntN.{ℤ, pos}
 use Rattle.lifting.specs.Program.{at, put}
 use Rattle.figures.specs.Block.{four}
-use Rattle.picture.specs.Level.{strip as line}
-use Rattle.picture.specs.Planes.{coefficients}
+use Rattle.transform.specs.Level.{strip as line}
+use Rattle.transform.specs.Grids.{coefficients}
 use Rattle.picture.proofs.Table.{at-table}
 use Rattle.forward_kernel.specs.Placed.{Placed, blockIn}
 use Rattle.forward_kernel.proofs.Stores.{placed-none, placed-next, placed-after, four-placed, below-four}

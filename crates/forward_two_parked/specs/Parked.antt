@@ -6,7 +6,7 @@ use mathlib.Core.Logic.{_⊎_}
 use lib.IntN.{ℤ}
 use lib.ListN.{length}
 use Rattle.lifting.specs.Program.{at}
-use Rattle.picture.specs.Planes.{coefficients}
+use Rattle.transform.specs.Grids.{coefficients}
 use Rattle.forward_two_cores.specs.Blocks.{Among}
 
 -- the place of coefficient j of block k of the b-th macroblock in the strip, from row y on

@@ -3,7 +3,7 @@ ghost use mathlib.Core.Path.{_≡_};
 ghost use Prim.Native.Nat.{ℕ, _+_, _*_, _/_, _%_, _<_, _≤_};
 ghost use lib.ListN.{length};
 ghost use Rattle.lifting.specs.Program.{at as number};
-ghost use Rattle.picture.specs.Planes.{coefficients};
+ghost use Rattle.transform.specs.Grids.{coefficients};
 ghost use Rattle.forward_kernel.specs.Placed.{Placed, blockIn};
 ghost use Rattle.forward_two_cores.specs.Blocks.{blockOf};
 ghost use Rattle.forward_two_edges.specs.Strip.{Kept};

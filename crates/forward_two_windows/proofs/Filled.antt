@@ -7,7 +7,7 @@ use lib.ListN.{length}
 use lib.IntN.{ℤ}
 use Rattle.lifting.specs.Program.{at, get, undo}
 use Rattle.figures.specs.Figures.{squareFilter}
-use Rattle.picture.specs.Level.{cell, square, filters}
+use Rattle.transform.specs.Level.{cell, square, filters}
 use Rattle.picture.specs.Sizes.{macroblocks}
 use Rattle.picture.specs.declared.size.Size.{Size}
 use Rattle.forward_four_windows.specs.Windows.{windowAt, Windows}

@@ -1,7 +1,7 @@
 // The windows of level two in the strip: the filters over the corners that four blocks share, undone from the samples.
 ghost use mathlib.Core.Path.{_≡_};
 ghost use Prim.Native.Nat.{ℕ, _+_, _*_, _<_, _≤_};
-ghost use Rattle.picture.specs.Level.{cell};
+ghost use Rattle.transform.specs.Level.{cell};
 ghost use Rattle.forward_two_edges.specs.Strip.{Holds, Kept, Given};
 use forward_four_windows::undo_four_windows;
 use picture::size::Size;

@@ -13,8 +13,9 @@ use Rattle.lifting.specs.Program.{Program, Operator, end, apply, at, get, put, 
 use Rattle.lifting.proofs.Bits.{back}
 use Rattle.figures.specs.Block.{four, flat}
 use Rattle.figures.proofs.Parts.{kept}
-use Rattle.picture.specs.Level.{strip, square}
-use Rattle.picture.specs.Planes.{table, coefficients}
+use Rattle.transform.specs.Level.{strip, square}
+use Rattle.picture.specs.Table.{table}
+use Rattle.transform.specs.Grids.{coefficients}
 
 pub four-read : (v : List ℤ) (i j k l : ℕ) → mag (at v i) < 2147483648 → mag (at v j) < 2147483648 → mag (at v k) < 2147483648 → mag (at v l) < 2147483648
     → kept (at v i) ∷ kept (at v j) ∷ kept (at v k) ∷ kept (at v l) ∷ [] ≡ get (i ∷ j ∷ k ∷ l ∷ []) v

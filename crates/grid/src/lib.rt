@@ -4,7 +4,7 @@ ghost use Prim.Native.Nat.{_+_, _<_};
 ghost use lib.ListN.{length};
 ghost use Rattle.lifting.specs.Program.{get, put};
 ghost use Rattle.figures.specs.Block.{four, flat};
-ghost use Rattle.picture.specs.Level.{strip, square, corner};
+ghost use Rattle.transform.specs.Level.{strip, square, corner};
 
 // The numbers at four places from `at` on, each `step` after the one before.
 pub fn get_four(grid: &[i32], step: usize, at: usize) -> [i32; 4]

@@ -9,11 +9,11 @@ use Rattle.lifting.specs.Program.{run}
 use Rattle.lifting.specs.Row.{Row}
 use Rattle.lifting.specs.Wraps.{wraps, undoWraps, Within}
 use Rattle.lifting.proofs.NoWrap.{wraps-then}
-use Rattle.picture.specs.Level.{cores, filtersIf, level}
-use Rattle.picture.specs.Planes.{firstGrid, secondGrid}
-use Rattle.picture.proofs.Grid.{row-first, row-second}
-use Rattle.picture.proofs.NoWrap.{level-calm, first-within, second-within}
-use Rattle.picture.proofs.Told.{level-told}
+use Rattle.transform.specs.Level.{cores, filtersIf, level}
+use Rattle.transform.specs.Grids.{firstGrid, secondGrid}
+use Rattle.transform.proofs.Grid.{row-first, row-second}
+use Rattle.transform.proofs.NoWrap.{level-calm, first-within, second-within}
+use Rattle.transform.proofs.Told.{level-told}
 
 -- ---- any level
 

@@ -14,8 +14,8 @@ use Rattle.lifting.proofs.Compose.{run-then, undo-then}
 use Rattle.lifting.proofs.Between.{All, all-map, Like, none-left, like-all}
 use Rattle.lifting.proofs.Locality.{Agree, agree-refl, use-inside, use-outside}
 use Rattle.figures.specs.Figures.{fourFilter}
-use Rattle.picture.specs.Level.{cell, strip, fourFilterAt, columnFilters, alongEdges}
-use Rattle.picture.proofs.Cells.{all-strip}
+use Rattle.transform.specs.Level.{cell, strip, fourFilterAt, columnFilters, alongEdges}
+use Rattle.transform.proofs.Cells.{all-strip}
 use Rattle.picture.proofs.Table.{same-lists}
 use Rattle.inverse_levels.proofs.Loops.{then-more}
 

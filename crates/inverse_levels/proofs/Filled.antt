@@ -8,12 +8,13 @@ use lib.ListN.{length}
 use lib.IntN.{ℤ}
 use Rattle.lifting.specs.Program.{at, put}
 use Rattle.lifting.proofs.Reverse.{length-put}
-use Rattle.picture.specs.Level.{cell, square}
-use Rattle.picture.specs.Planes.{table, squareOf, place, grid}
+use Rattle.transform.specs.Level.{cell, square}
+use Rattle.picture.specs.Table.{table}
+use Rattle.transform.specs.Grids.{squareOf, place, grid}
 use Rattle.picture.proofs.Table.{length-table, at-table}
-use Rattle.picture.proofs.Geometry.{square-of-place, place-of-square}
-use Rattle.picture.proofs.Grid.{grid-is}
-use Rattle.picture.proofs.Squares.{sixteen, square-is, own, other}
+use Rattle.transform.proofs.Geometry.{square-of-place, place-of-square}
+use Rattle.transform.proofs.Grid.{grid-is}
+use Rattle.transform.proofs.Squares.{sixteen, square-is, own, other}
 use Rattle.inverse_levels.specs.Filled.{Filled}
 
 -- the place of a coefficient does not come before its square's number

@@ -12,8 +12,8 @@ use Rattle.lifting.proofs.Compose.{run-each}
 use Rattle.lifting.proofs.Between.{All, all-map, none-left}
 use Rattle.lifting.proofs.Locality.{Agree, agree-refl, get-same, use-outside}
 use Rattle.figures.specs.Figures.{squareFilter}
-use Rattle.picture.specs.Level.{strip, square}
-use Rattle.picture.proofs.Cells.{all-strip, all-square}
+use Rattle.transform.specs.Level.{strip, square}
+use Rattle.transform.proofs.Cells.{all-strip, all-square}
 use Rattle.grid.proofs.Squares.{used}
 use Rattle.inverse_levels.proofs.Loops.{each-more}
 

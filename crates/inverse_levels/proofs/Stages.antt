@@ -6,7 +6,7 @@ use mathlib.Core.List.{List}
 use native.Mathlib.Omega.{arith}
 use lib.IntN.{ℤ}
 use Rattle.lifting.specs.Program.{run, each, runBy}
-use Rattle.picture.specs.Level.{cores, squareFilters, filters, level}
+use Rattle.transform.specs.Level.{cores, squareFilters, filters, level}
 use Rattle.inverse_levels.specs.Stages.{windowRow, windowsIf, edgesIf}
 use Rattle.inverse_levels.proofs.Loops.{each-like, then-more}
 

@@ -5,7 +5,7 @@ use mathlib.Core.List.{List}
 use lib.ListN.{length}
 use lib.IntN.{ℤ}
 use Rattle.lifting.specs.Program.{at}
-use Rattle.picture.specs.Planes.{squareOf, place}
+use Rattle.transform.specs.Grids.{squareOf, place}
 
 -- in a grid of p squares across: the squares of P hold the coefficients f
 pub record Filled (p : ℕ) (f : ℕ → ℕ → ℤ) (old : List ℤ) (P : ℕ → Type 0) (v : List ℤ) : Type 0 where

@@ -2,7 +2,7 @@
 use Prim.Native.Nat.{ℕ, _+_, _-_, _*_}
 use mathlib.Core.Bool.{Bool, true, false}
 use Rattle.lifting.specs.Program.{Program, end, each}
-use Rattle.picture.specs.Level.{cell, squareFilterAt, edgeFilters}
+use Rattle.transform.specs.Level.{cell, squareFilterAt, edgeFilters}
 
 -- the windows between rows j and j + 1 of the squares
 abbrev pub windowRow : ℕ → ℕ → Program

@@ -5,7 +5,7 @@ ghost use mathlib.Core.Path.{_≡_};
 ghost use Prim.Native.Nat.{_+_, _-_, _*_, _<_, _≤_};
 ghost use lib.ListN.{length};
 ghost use Rattle.lifting.specs.Program.{run, each, _then_};
-ghost use Rattle.picture.specs.Level.{fourFilterAt, cornerFilterAt, rowFilters, columnFilters, alongEdges, cornerFilters, edgeFilters};
+ghost use Rattle.transform.specs.Level.{fourFilterAt, cornerFilterAt, rowFilters, columnFilters, alongEdges, cornerFilters, edgeFilters};
 ghost use Rattle.inverse_levels.specs.Stages.{windowRow, windowsIf, edgesIf};
 use crate::windows::four_windows;
 use four_filter::four_filter;

@@ -4,7 +4,7 @@ ghost use Prim.Native.Nat.{ℕ, _+_, _*_, _<_, _≤_};
 ghost use lib.ListN.{length};
 ghost use Rattle.lifting.specs.Program.{run, get, put, each};
 ghost use Rattle.figures.specs.Figures.{squareFilter};
-ghost use Rattle.picture.specs.Level.{square, squareFilterAt};
+ghost use Rattle.transform.specs.Level.{square, squareFilterAt};
 ghost use Rattle.lanes.specs.Lanes.{laneOf};
 use grid::get_square;
 use grid::put_square;

@@ -3,7 +3,7 @@ use Prim.Native.Nat.{ℕ, _+_, _*_, _≤_, _<_}
 use mathlib.Core.List.{List}
 use lib.IntN.{ℤ}
 use Rattle.lifting.specs.Program.{at}
-use Rattle.picture.specs.Planes.{coefficients}
+use Rattle.transform.specs.Grids.{coefficients}
 
 -- macroblock m: its DC number, and then its low-pass numbers
 abbrev pub planeNumbers : List ℤ → List ℤ → ℕ → ℕ → ℤ

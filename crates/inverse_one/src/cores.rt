@@ -3,7 +3,7 @@ ghost use mathlib.Core.Path.{_≡_};
 ghost use Prim.Native.Nat.{_+_, _*_, _<_, _≤_};
 ghost use lib.ListN.{length};
 ghost use Rattle.lifting.specs.Program.{run, each};
-ghost use Rattle.picture.specs.Level.{cell, coreAt, cores as coreProgram};
+ghost use Rattle.transform.specs.Level.{cell, coreAt, cores as coreProgram};
 use core_transform::core;
 use grid::get_square;
 use grid::put_square;

@@ -10,12 +10,12 @@ use Rattle.lifting.specs.Program.{at, run, runBy}
 use Rattle.lifting.proofs.Between.{none-left}
 use Rattle.lifting.proofs.Locality.{Agree, agree-refl}
 use Rattle.figures.specs.Figures.{core}
-use Rattle.picture.specs.Level.{cores, filters, level}
-use Rattle.picture.specs.Planes.{grid, secondGrid}
+use Rattle.transform.specs.Level.{cores, filters, level}
+use Rattle.transform.specs.Grids.{grid, secondGrid}
 use Rattle.picture.proofs.Table.{table-same}
-use Rattle.picture.proofs.Grid.{grid-is, at-grid, length-grid}
-use Rattle.picture.proofs.Squares.{square-places}
-use Rattle.picture.proofs.Alone.{coresOfRow, other-rows, core-run-at}
+use Rattle.transform.proofs.Grid.{grid-is, at-grid, length-grid}
+use Rattle.transform.proofs.Squares.{square-places}
+use Rattle.transform.proofs.Alone.{coresOfRow, other-rows, core-run-at}
 use Rattle.inverse_levels.specs.Stages.{edgesIf}
 use Rattle.inverse_levels.proofs.Loops.{then-more}
 use Rattle.inverse_two.specs.Blocks.{blockNumbers, cored}

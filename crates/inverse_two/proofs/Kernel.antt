@@ -10,8 +10,9 @@ use Rattle.lifting.proofs.Reverse.{length-put}
 use Rattle.figures.specs.Block.{four, flat}
 use Rattle.figures.specs.Figures.{core, coreStages}
 use Rattle.figures.proofs.Parts.{place}
-use Rattle.picture.specs.Level.{strip, square}
-use Rattle.picture.specs.Planes.{table, coefficients}
+use Rattle.transform.specs.Level.{strip, square}
+use Rattle.picture.specs.Table.{table}
+use Rattle.transform.specs.Grids.{coefficients}
 use Rattle.lanes.specs.Lanes.{InLanes, Placed}
 use Rattle.lanes.proofs.Rows.{four-numbers, joined}
 use Rattle.inverse_two.specs.Blocks.{blockFrom, blockInLane, FourBlocks}

@@ -10,7 +10,8 @@ use lib.Arith.{digits-div, digits-mod}
 use lib.IntN.{ℤ}
 use Rattle.lifting.specs.Program.{at, run}
 use Rattle.figures.specs.Figures.{core}
-use Rattle.picture.specs.Planes.{table, coefficients, blockOrder, squareOf, place}
+use Rattle.picture.specs.Table.{table}
+use Rattle.transform.specs.Grids.{coefficients, blockOrder, squareOf, place}
 use Rattle.lanes.proofs.Rows.{square-at}
 use Rattle.inverse_levels.specs.Filled.{Filled}
 use Rattle.inverse_levels.proofs.Filled.{square-not-after, filled-join, filled-same}

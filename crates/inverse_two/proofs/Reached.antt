@@ -12,10 +12,10 @@ use lib.Seq.{getD-take}
 use lib.IntN.{ℤ, pos}
 use Rattle.lifting.specs.Program.{at, run}
 use Rattle.lifting.proofs.Locality.{Agree}
-use Rattle.picture.specs.Planes.{coefficients, blockOrder, squareOf, coefficientOf, place, grid}
+use Rattle.transform.specs.Grids.{coefficients, blockOrder, squareOf, coefficientOf, place, grid}
 use Rattle.picture.proofs.Table.{same-lists}
-use Rattle.picture.proofs.Geometry.{place-of-square, coefficient-low}
-use Rattle.picture.proofs.Grid.{at-grid, length-grid}
+use Rattle.transform.proofs.Geometry.{place-of-square, coefficient-low}
+use Rattle.transform.proofs.Grid.{at-grid, length-grid}
 use Rattle.inverse_levels.specs.Filled.{Filled}
 use Rattle.inverse_levels.specs.Stages.{windowsIf}
 use Rattle.inverse_two.specs.Blocks.{blockNumbers, cored, InRows}

@@ -9,8 +9,8 @@ use Rattle.lifting.specs.Program.{Program, end, SquareFilter, at, run, each, ru
 use Rattle.lifting.proofs.Between.{all-map, Like, none-left, like-all, like-each}
 use Rattle.lifting.proofs.Locality.{Agree, agree-refl, use-inside, use-outside}
 use Rattle.figures.specs.Figures.{squareFilter}
-use Rattle.picture.specs.Level.{cell, square, squareFilterAt, squareFilters}
-use Rattle.picture.proofs.Cells.{square-filter-in-cell}
+use Rattle.transform.specs.Level.{cell, square, squareFilterAt, squareFilters}
+use Rattle.transform.proofs.Cells.{square-filter-in-cell}
 use Rattle.inverse_levels.specs.Stages.{windowRow, windowsIf}
 
 -- all square filters of the level

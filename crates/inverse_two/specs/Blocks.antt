@@ -6,8 +6,9 @@ use lib.ListN.{length}
 use lib.IntN.{ℤ}
 use Rattle.lifting.specs.Program.{at, get, run}
 use Rattle.figures.specs.Figures.{core}
-use Rattle.picture.specs.Level.{strip, square}
-use Rattle.picture.specs.Planes.{table, coefficients, blockOrder}
+use Rattle.transform.specs.Level.{strip, square}
+use Rattle.picture.specs.Table.{table}
+use Rattle.transform.specs.Grids.{coefficients, blockOrder}
 use Rattle.lanes.specs.Lanes.{Outside}
 use Rattle.inverse_levels.specs.Filled.{Filled}
 

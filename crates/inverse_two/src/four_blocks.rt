@@ -6,7 +6,7 @@ ghost use lib.ListN.{length};
 ghost use Rattle.lifting.specs.Program.{run, get};
 ghost use Rattle.figures.specs.Block.{flat};
 ghost use Rattle.figures.specs.Figures.{core as coreLines};
-ghost use Rattle.picture.specs.Level.{square};
+ghost use Rattle.transform.specs.Level.{square};
 ghost use Rattle.large_numbers.specs.Small.{Small};
 ghost use Rattle.inverse_two.specs.Blocks.{blockFrom, blockInLane, FourBlocks};
 use core_transform::core;

@@ -15,9 +15,9 @@ use Rattle.lifting.proofs.Reverse.{get-put, length-put}
 use Rattle.lifting.proofs.Between.{All, all-map}
 use Rattle.lifting.proofs.Locality.{agree-refl, get-same, put-keeps}
 use Rattle.figures.specs.Block.{four}
-use Rattle.picture.specs.Level.{strip, square}
-use Rattle.picture.proofs.Levels.{rising-places, square-places}
-use Rattle.picture.proofs.Cells.{all-strip, all-square}
+use Rattle.transform.specs.Level.{strip, square}
+use Rattle.transform.proofs.Levels.{rising-places, square-places}
+use Rattle.transform.proofs.Cells.{all-strip, all-square}
 use Rattle.lanes.specs.Lanes.{InLanes}
 
 -- the first n pieces of `out` hold F 0, .., F (n - 1)

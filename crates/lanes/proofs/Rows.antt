@@ -12,12 +12,12 @@ use Rattle.lifting.specs.Valid.{places}
 use Rattle.lifting.proofs.Reverse.{get-put, length-put}
 use Rattle.lifting.proofs.Locality.{agree-refl, put-keeps}
 use Rattle.figures.specs.Block.{four, flat}
-use Rattle.picture.specs.Level.{strip, square}
-use Rattle.picture.specs.Planes.{table}
+use Rattle.transform.specs.Level.{strip, square}
+use Rattle.picture.specs.Table.{table}
 use Rattle.picture.proofs.Table.{at-table, table-same}
-use Rattle.picture.proofs.Squares.{sixteen, get-sixteen}
-use Rattle.picture.proofs.Levels.{rising-places}
-use Rattle.picture.proofs.Cells.{all-strip}
+use Rattle.transform.proofs.Squares.{sixteen, get-sixteen}
+use Rattle.transform.proofs.Levels.{rising-places}
+use Rattle.transform.proofs.Cells.{all-strip}
 use Rattle.grid.proofs.Rows.{row-inside}
 use Rattle.lanes.specs.Lanes.{laneOf, InLanes, Moved, Placed}
 

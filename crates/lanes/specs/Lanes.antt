@@ -5,7 +5,7 @@ use mathlib.Core.List.{List, _++_}
 use lib.ListN.{length}
 use lib.IntN.{ℤ}
 use Rattle.lifting.specs.Program.{at, get}
-use Rattle.picture.specs.Level.{strip, square}
+use Rattle.transform.specs.Level.{strip, square}
 
 -- the rows' four numbers from place i on, one row after another
 abbrev pub rowsAt : List ℤ → List ℤ → List ℤ → List ℤ → ℕ → List ℤ

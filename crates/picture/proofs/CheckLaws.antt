@@ -16,10 +16,9 @@ use Rattle.picture.specs.declared.mode.ModeAnswer.{ModeAnswer}
 use Rattle.picture.specs.declared.mode.ModeAnswer.the-variants.{Known, Unknown}
 use Rattle.picture.specs.declared.checks.Checked.{Checked}
 use Rattle.picture.specs.declared.checks.Checked.the-variants.{Ready, Refused}
-use Rattle.picture.specs.Sizes.{Sized, macroblocks}
+use Rattle.picture.specs.Sizes.{Sized, macroblocks, Shape}
 use Rattle.picture.specs.Modes.{modeAnswer, modeNumber, modeOf, checked}
 use Rattle.picture.specs.Planes.{Planes, Lengths}
-use Rattle.picture.specs.Claims.{Shape}
 use Rattle.picture.specs.Numbers.{_if_, firstOf, settled, unlike, outside, shapeChecks, lowChecks, planeChecks}
 use Rattle.picture.proofs.NumberLaws.{refused-first, passed-first, settled-refused}
 

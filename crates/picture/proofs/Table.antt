@@ -11,7 +11,7 @@ use mir.Syntax.{w32}
 use Rattle.lifting.specs.Program.{at}
 use Rattle.lifting.specs.Row.{Row}
 use Rattle.lifting.proofs.Reverse.{row-of}
-use Rattle.picture.specs.Planes.{table}
+use Rattle.picture.specs.Table.{table}
 
 pub length-table : (n : ℕ) (f : ℕ → ℤ) → length (table n f) ≡ n
 unfolding table

@@ -1,9 +1,5 @@
 pub mod Sizes
 pub mod Modes
-pub mod Level
+pub mod Table
 pub mod Planes
-pub mod Transform
-pub mod Windows
-pub mod Claims
 pub mod Numbers
-pub mod Wraps

@@ -7,8 +7,7 @@ use native.Mathlib.Omega.{arith}
 use lib.ListN.{length}
 use borrow.Author.Tests.{ltb-false, le-ltb, eq-eqb, ne-eqb}
 use Rattle.picture.specs.declared.size.Size.{Size}
-use Rattle.picture.specs.Sizes.{Sized, macroblocks}
-use Rattle.picture.specs.Claims.{Shape}
+use Rattle.picture.specs.Sizes.{Sized, macroblocks, Shape}
 use Rattle.picture.specs.Planes.{Planes, Lengths}
 use Rattle.picture.specs.Numbers.{_if_, firstOf, settled, unlike, shapeChecks, planeChecks}
 use Rattle.picture.proofs.CheckLaws.{all-pass, pass-all, passes, passing, either-false, like, shaped, shape-passes, planes-fit}

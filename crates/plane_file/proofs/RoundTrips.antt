@@ -14,10 +14,10 @@ use mir.Syntax.{w32}
 use Rattle.lifting.specs.Wrap.{low32, wrap}
 use Rattle.lifting.specs.Program.{at}
 use Rattle.picture.specs.declared.size.Size.{Size}
-use Rattle.picture.specs.Sizes.{macroblocks}
+use Rattle.picture.specs.Sizes.{macroblocks, Shape}
 use Rattle.picture.specs.Numbers.{planeChecks}
-use Rattle.picture.specs.Claims.{Shape}
-use Rattle.picture.specs.Planes.{Planes, PlanesOf, Lengths, table}
+use Rattle.picture.specs.Planes.{Planes, PlanesOf, Lengths}
+use Rattle.picture.specs.Table.{table}
 use Rattle.picture.proofs.Table.{length-table, table-is, table-same}
 use Rattle.picture.proofs.NumberLaws.{passed-first, settled-done}
 use Rattle.plane_file.specs.Words.{word, words, numbers, wordAt, wordsAt, numberAt, numbersAt}

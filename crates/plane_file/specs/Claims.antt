@@ -4,7 +4,7 @@ use mathlib.Core.Path.{_≡_}
 use mathlib.Core.List.{List}
 use lib.ListN.{length, getD}
 use Rattle.picture.specs.declared.size.Size.{Size}
-use Rattle.picture.specs.Claims.{Shape}
+use Rattle.picture.specs.Sizes.{Shape}
 use Rattle.picture.specs.Planes.{Planes, PlanesOf}
 use Rattle.plane_file.specs.Words.{wordAt}
 use Rattle.plane_file.specs.Header.{headerOf, sizeIn}

@@ -4,7 +4,7 @@ use mathlib.Core.List.{List, [], _∷_, _++_, map}
 use lib.ListN.{getD}
 use lib.IntN.{ℤ, pos}
 use Rattle.lifting.specs.Wrap.{low32, wrap}
-use Rattle.picture.specs.Planes.{table}
+use Rattle.picture.specs.Table.{table}
 
 -- ---- written
 

@@ -7,10 +7,11 @@ use lib.IntN.{pos}
 use Rattle.lifting.specs.Wrap.{wrap}
 use Rattle.lifting.specs.Program.{run, back, undo, line, value, get, put, _then_, each, lineBy, runBy, undoBy, valueBy}
 use Rattle.figures.specs.Figures.{hadamard, odd, oddOdd, core, coreStages}
-use Rattle.picture.specs.Level.{square, coreAt, cores, level}
-use Rattle.picture.specs.Planes.{table, grid, firstGrid, secondGrid, dcOf, lowOf, viewOf, highOf}
-use Rattle.picture.specs.Transform.{quarterBy, inverseBy, secondUndone, firstUndone, forwardBy, inverse}
-use Rattle.picture.proofs.Sanity.{of, dcOnly}
+use Rattle.transform.specs.Level.{square, coreAt, cores, level}
+use Rattle.picture.specs.Table.{table}
+use Rattle.transform.specs.Grids.{grid, firstGrid, secondGrid, dcOf, lowOf, viewOf, highOf}
+use Rattle.transform.specs.Transform.{quarterBy, inverseBy, secondUndone, firstUndone, forwardBy, inverse}
+use Rattle.transform.proofs.Sanity.{of, dcOnly}
 use Rattle.step_sizes.specs.Steps.{stepOf}
 use Rattle.step_sizes.specs.Levels.{quantised}
 use Rattle.quantise.specs.Quantise.{quantisedPlanes}

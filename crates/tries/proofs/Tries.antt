@@ -15,8 +15,8 @@ use Rattle.picture.specs.declared.mode.Mode.{Mode}
 use Rattle.picture.specs.declared.size.Size.{Size}
 use Rattle.picture.specs.Sizes.{Sized, macroblocks}
 use Rattle.picture.specs.Planes.{Planes, PlanesOf}
-use Rattle.picture.specs.Transform.{forwardBy, inverseBy}
-use Rattle.picture.proofs.OnePlanes.{planes-forward, inverse-forward}
+use Rattle.transform.specs.Transform.{forwardBy, inverseBy}
+use Rattle.transform.proofs.OnePlanes.{planes-forward, inverse-forward}
 use Rattle.step_sizes.specs.Steps.{stepOf}
 use Rattle.step_sizes.specs.Levels.{quantised, restored, outOfRange}
 use Rattle.step_sizes.proofs.Claims.{step-claim}

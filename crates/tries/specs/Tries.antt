@@ -9,7 +9,7 @@ use Rattle.picture.specs.declared.size.Size.{Size}
 use Rattle.picture.specs.Sizes.{macroblocks}
 use Rattle.picture.specs.Modes.{modeOf}
 use Rattle.picture.specs.Planes.{Planes}
-use Rattle.picture.specs.Transform.{forwardBy, inverseBy}
+use Rattle.transform.specs.Transform.{forwardBy, inverseBy}
 use Rattle.bands.specs.declared.steps.Steps.{Steps}
 use Rattle.quantise.specs.Quantise.{quantisedPlanes}
 use Rattle.restore.specs.Restore.{restoredPlanes, anyOutOf}

@@ -2,7 +2,7 @@
 use Prim.Native.Nat.{_<_}
 use native.Mathlib.Omega.{arith}
 use borrow.Author.Needs.{needs}
-use Rattle.picture.specs.Planes.{blockOrder}
+use Rattle.transform.specs.Grids.{blockOrder}
 use Rattle.cores_told.proofs.Blocks.{order-fits}
 use Rattle.cores_told.proofs.block_order.Statement.{statement}
 use Rattle.cores_told.proofs.block_order.Tie as tie

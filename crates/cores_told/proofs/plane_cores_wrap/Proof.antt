@@ -7,7 +7,7 @@ use borrow.Author.Needs.{needs}
 use lib.ListN.{length}
 use Rattle.lifting.proofs.Bits.{back}
 use Rattle.lifting.proofs.Tests.{None, none-yet, none-more, any-yes, any-none}
-use Rattle.picture.specs.Planes.{blockOrder}
+use Rattle.transform.specs.Grids.{blockOrder}
 use Rattle.picture.proofs.CheckLaws.{few-macroblocks}
 use Rattle.picture.specs.Sizes.{macroblocks}
 use Rattle.cores_told.proofs.Blocks.{blockWraps, heldZero, block-in, held-told}

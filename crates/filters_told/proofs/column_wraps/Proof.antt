@@ -7,7 +7,7 @@ use Rattle.lifting.specs.Program.{Program}
 use Rattle.lifting.specs.Wraps.{undoWraps}
 use Rattle.lifting.specs.AnyUse.{anyUse}
 use Rattle.lifting.proofs.AnyUse.{Walked, walk-begins, walk-goes-on, walk-finds, walk-ends}
-use Rattle.picture.specs.Level.{cell, fourFilterAt, columnFilters}
+use Rattle.transform.specs.Level.{cell, fourFilterAt, columnFilters}
 use Rattle.grid.proofs.Rows.{row-inside}
 use Rattle.filters_told.proofs.column_wraps.Statement.{statement}
 use Rattle.filters_told.proofs.column_wraps.Tie as tie

@@ -10,7 +10,7 @@ use lib.IntN.{ℤ}
 use Rattle.lifting.specs.Wraps.{undoWraps}
 use Rattle.lifting.specs.AnyUse.{anyUse}
 use Rattle.lifting.proofs.AnyUse.{four-told}
-use Rattle.picture.specs.Level.{cornerFilterAt, cornerFilters}
+use Rattle.transform.specs.Level.{cornerFilterAt, cornerFilters}
 use Rattle.grid.proofs.Rows.{last-two}
 use Rattle.filters_told.proofs.corners_wrap.Statement.{statement}
 use Rattle.filters_told.proofs.corners_wrap.Tie as tie

@@ -4,8 +4,8 @@ use mathlib.Core.Bool.{_||_}
 use borrow.Author.Needs.{needs}
 use Rattle.lifting.specs.Wraps.{undoWraps}
 use Rattle.lifting.specs.AnyUse.{anyUse}
-use Rattle.picture.specs.Level.{squareFilters, rowFilters, columnFilters, alongEdges, cornerFilters, filters}
-use Rattle.picture.proofs.Told.{filters-told}
+use Rattle.transform.specs.Level.{squareFilters, rowFilters, columnFilters, alongEdges, cornerFilters, filters}
+use Rattle.transform.proofs.Told.{filters-told}
 use Rattle.filters_told.proofs.filters_wrap.Statement.{statement}
 use Rattle.filters_told.proofs.filters_wrap.Tie as tie
 

@@ -4,7 +4,7 @@ use Rattle.lifting.specs.Program.{FourFilter}
 use Rattle.lifting.specs.Wraps.{undoWraps}
 use Rattle.lifting.proofs.AnyUse.{use-told}
 use Rattle.figures.specs.Figures.{fourFilter}
-use Rattle.picture.specs.Level.{strip, fourFilterAt}
+use Rattle.transform.specs.Level.{strip, fourFilterAt}
 use Rattle.filters_told.proofs.four_wraps.Statement.{statement}
 use Rattle.filters_told.proofs.four_wraps.Tie as tie
 

@@ -4,7 +4,7 @@ use Rattle.lifting.specs.Program.{SquareFilter}
 use Rattle.lifting.specs.Wraps.{undoWraps}
 use Rattle.lifting.proofs.AnyUse.{use-told}
 use Rattle.figures.specs.Figures.{squareFilter}
-use Rattle.picture.specs.Level.{square, squareFilterAt}
+use Rattle.transform.specs.Level.{square, squareFilterAt}
 use Rattle.filters_told.proofs.judge_window.Statement.{statement}
 use Rattle.filters_told.proofs.judge_window.Tie as tie
 

@@ -8,7 +8,7 @@ use Rattle.lifting.specs.Program.{Program}
 use Rattle.lifting.specs.Wraps.{undoWraps}
 use Rattle.lifting.specs.AnyUse.{anyUse}
 use Rattle.lifting.proofs.AnyUse.{Walked, walk-begins, walk-goes-on, walk-finds, walk-ends}
-use Rattle.picture.specs.Level.{cell, fourFilterAt, rowFilters}
+use Rattle.transform.specs.Level.{cell, fourFilterAt, rowFilters}
 use Rattle.filters_told.proofs.row_wraps.Statement.{statement}
 use Rattle.filters_told.proofs.row_wraps.Tie as tie
 

@@ -6,7 +6,7 @@ use Rattle.lifting.specs.Program.{Program}
 use Rattle.lifting.specs.Wraps.{undoWraps}
 use Rattle.lifting.specs.AnyUse.{anyUse}
 use Rattle.lifting.proofs.AnyUse.{Walked, walk-begins, walk-goes-on, walk-finds, walk-ends}
-use Rattle.picture.specs.Level.{cell, squareFilterAt}
+use Rattle.transform.specs.Level.{cell, squareFilterAt}
 use Rattle.filters_told.proofs.window_row_wraps.Statement.{statement}
 use Rattle.filters_told.proofs.window_row_wraps.Tie as tie
 

@@ -4,7 +4,7 @@ use native.Mathlib.Omega.{arith}
 use Rattle.lifting.specs.Program.{Program, each}
 use Rattle.lifting.specs.Wraps.{undoWraps}
 use Rattle.lifting.proofs.AnyUse.{Walked, walk-begins, walk-goes-on, walk-finds, walk-ends}
-use Rattle.picture.specs.Level.{cell, squareFilterAt, squareFilters}
+use Rattle.transform.specs.Level.{cell, squareFilterAt, squareFilters}
 use Rattle.grid.proofs.Rows.{row-inside}
 use Rattle.filters_told.proofs.windows_wrap.Statement.{statement}
 use Rattle.filters_told.proofs.windows_wrap.Tie as tie

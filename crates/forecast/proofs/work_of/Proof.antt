@@ -5,8 +5,8 @@ use borrow.Author.Needs.{needs}
 use Rattle.picture.specs.declared.mode.Mode.{Mode}
 use Rattle.picture.specs.declared.size.Size.{Size}
 use Rattle.picture.specs.Sizes.{macroblocks}
-use Rattle.picture.specs.Level.{level}
-use Rattle.picture.specs.Transform.{levelOne}
+use Rattle.transform.specs.Level.{level}
+use Rattle.transform.specs.Transform.{levelOne}
 use Rattle.forecast.specs.declared.LevelUses.{LevelUses}
 use Rattle.forecast.specs.declared.Work.{Work}
 use Rattle.forecast.specs.Forecast.{workBy}

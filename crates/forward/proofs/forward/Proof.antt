@@ -9,8 +9,8 @@ use Rattle.picture.specs.Sizes.{macroblocks}
 use Rattle.picture.specs.Modes.{modeOf}
 use Rattle.picture.specs.Planes.{Planes, planes}
 use Rattle.picture.specs.Numbers.{planeChecks, sampleCheck, forwardNumber}
-use Rattle.picture.specs.Transform.{forwardBy}
-use Rattle.picture.specs.Wraps.{forwardWrapsBy}
+use Rattle.transform.specs.Transform.{forwardBy}
+use Rattle.transform.specs.Wraps.{forwardWrapsBy}
 use Rattle.picture.proofs.CheckLaws.{refused-call, ready-call, ready-sized}
 use Rattle.forward.proofs.forward.Statement.{statement}
 use Rattle.forward.proofs.forward.Tie as tie

@@ -9,8 +9,8 @@ use lib.ListN.{length}
 use Rattle.picture.specs.Sizes.{macroblocks}
 use Rattle.picture.specs.Planes.{Planes, planes}
 use Rattle.picture.specs.Numbers.{firstOf, sampleCheck, planeChecks}
-use Rattle.picture.specs.Transform.{forwardBy}
-use Rattle.picture.specs.Wraps.{forwardWrapsBy}
+use Rattle.transform.specs.Transform.{forwardBy}
+use Rattle.transform.specs.Wraps.{forwardWrapsBy}
 use Rattle.picture.proofs.NumberLaws.{settled-refused}
 use Rattle.picture.proofs.CheckLaws.{counted, planes-fit}
 use Rattle.forward.proofs.forward_sized.Statement.{statement}

@@ -3,7 +3,7 @@ use Prim.Native.Nat.{_+_, _-_, _*_, _<_}
 use mathlib.Core.Path.{_≡_, _∙_}
 use native.Mathlib.Omega.{arith}
 use borrow.Author.Needs.{needs}
-use Rattle.picture.specs.Level.{cell}
+use Rattle.transform.specs.Level.{cell}
 use Rattle.forward_two_edges.proofs.Strips.{given-of, Made, made-none, made-next, made-all, later-row-few}
 use Rattle.forward_two_edges.proofs.edge_rows.Statement.{statement}
 use Rattle.forward_two_edges.proofs.edge_rows.Tie as tie

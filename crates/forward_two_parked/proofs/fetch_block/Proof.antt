@@ -9,7 +9,7 @@ use mir.ValLaws.{toZ-ofZ}
 use Rattle.lifting.specs.Program.{at}
 use Rattle.lifting.proofs.Bits.{back}
 use Rattle.figures.proofs.Parts.{kept}
-use Rattle.picture.specs.Planes.{coefficients}
+use Rattle.transform.specs.Grids.{coefficients}
 use Rattle.forward_kernel.proofs.Stores.{below-four, four-at}
 use Rattle.forward_two_parked.proofs.Numbers.{block-fetched}
 use borrow.Author.Needs.{needs}

@@ -3,7 +3,7 @@ use Prim.Native.Nat.{ℕ, _+_, _-_, _*_, _≤_}
 use mathlib.Core.Path.{_≡_, _∙_, ap}
 use native.Mathlib.Omega.{arith}
 use borrow.Author.Needs.{needs}
-use Rattle.picture.specs.Level.{cell}
+use Rattle.transform.specs.Level.{cell}
 use Rattle.forward_two_edges.specs.Strip.{Holds, Kept}
 use Rattle.forward_two_edges.proofs.Strips.{given-of, later-row-few, holds-kept, holds-under, holds-as, kept-none, kept-as, kept-then}
 use Rattle.forward_two_windows.proofs.windows.Statement.{statement}

@@ -10,8 +10,8 @@ use Rattle.picture.specs.Sizes.{macroblocks}
 use Rattle.picture.specs.Modes.{modeOf}
 use Rattle.picture.specs.Planes.{Planes, planes}
 use Rattle.picture.specs.Numbers.{planeChecks, sampleCheck, inverseNumber}
-use Rattle.picture.specs.Transform.{inverseBy}
-use Rattle.picture.specs.Wraps.{inverseWrapsBy}
+use Rattle.transform.specs.Transform.{inverseBy}
+use Rattle.transform.specs.Wraps.{inverseWrapsBy}
 use Rattle.picture.proofs.CheckLaws.{refused-call, ready-call, ready-sized}
 use Rattle.inverse.proofs.inverse.Statement.{statement}
 use Rattle.inverse.proofs.inverse.Tie as tie

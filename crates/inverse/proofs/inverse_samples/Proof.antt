@@ -7,8 +7,8 @@ use lib.ListN.{length, take}
 use lib.Seq.{length-take-le, take-at}
 use Rattle.lifting.specs.Program.{run}
 use Rattle.picture.specs.Sizes.{macroblocks}
-use Rattle.picture.specs.Planes.{secondGrid}
-use Rattle.picture.specs.Transform.{levelTwo, quarterBy, inverseBy}
+use Rattle.transform.specs.Grids.{secondGrid}
+use Rattle.transform.specs.Transform.{levelTwo, quarterBy, inverseBy}
 use Rattle.inverse.proofs.inverse_samples.Statement.{statement}
 use Rattle.inverse.proofs.inverse_samples.Tie as tie
 

@@ -9,8 +9,8 @@ use lib.ListN.{length}
 use Rattle.picture.specs.Sizes.{macroblocks}
 use Rattle.picture.specs.Planes.{Planes, planes}
 use Rattle.picture.specs.Numbers.{firstOf, settled, planeChecks, sampleCheck}
-use Rattle.picture.specs.Transform.{inverseBy}
-use Rattle.picture.specs.Wraps.{inverseWrapsBy}
+use Rattle.transform.specs.Transform.{inverseBy}
+use Rattle.transform.specs.Wraps.{inverseWrapsBy}
 use Rattle.picture.proofs.CheckLaws.{counted, refused-before, refused-length, passed-length, planes-fit}
 use Rattle.inverse.proofs.inverse_sized.Statement.{statement}
 use Rattle.inverse.proofs.inverse_sized.Tie as tie

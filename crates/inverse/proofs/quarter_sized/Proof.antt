@@ -8,8 +8,8 @@ use lib.IntN.{ℤ}
 use lib.ListN.{length}
 use Rattle.picture.specs.Sizes.{macroblocks}
 use Rattle.picture.specs.Numbers.{firstOf, settled, lowChecks, viewCheck}
-use Rattle.picture.specs.Transform.{quarterBy}
-use Rattle.picture.specs.Wraps.{quarterWrapsBy}
+use Rattle.transform.specs.Transform.{quarterBy}
+use Rattle.transform.specs.Wraps.{quarterWrapsBy}
 use Rattle.picture.proofs.CheckLaws.{counted, refused-before, refused-length, passed-length, low-fits}
 use Rattle.inverse.proofs.quarter_sized.Statement.{statement}
 use Rattle.inverse.proofs.quarter_sized.Tie as tie

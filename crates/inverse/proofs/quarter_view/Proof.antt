@@ -9,8 +9,8 @@ use Rattle.picture.specs.declared.mode.Mode.{Mode}
 use Rattle.picture.specs.Sizes.{macroblocks}
 use Rattle.picture.specs.Modes.{modeOf}
 use Rattle.picture.specs.Numbers.{lowChecks, viewCheck, quarterNumber}
-use Rattle.picture.specs.Transform.{quarterBy}
-use Rattle.picture.specs.Wraps.{quarterWrapsBy}
+use Rattle.transform.specs.Transform.{quarterBy}
+use Rattle.transform.specs.Wraps.{quarterWrapsBy}
 use Rattle.picture.proofs.CheckLaws.{refused-call, ready-call, ready-sized}
 use Rattle.inverse.proofs.quarter_view.Statement.{statement}
 use Rattle.inverse.proofs.quarter_view.Tie as tie

@@ -4,7 +4,7 @@ use mathlib.Core.Path.{_≡_, refl, _∙_, ap}
 use native.Mathlib.Omega.{arith}
 use lib.ListN.{length}
 use Rattle.lifting.specs.Program.{Program, run, each, _then_}
-use Rattle.picture.specs.Level.{cell, fourFilterAt, columnFilters}
+use Rattle.transform.specs.Level.{cell, fourFilterAt, columnFilters}
 use Rattle.inverse_levels.proofs.Columns.{columns-apart}
 use Rattle.inverse_levels.proofs.Loops.{each-none, each-more}
 use Rattle.grid.proofs.Rows.{row-inside}

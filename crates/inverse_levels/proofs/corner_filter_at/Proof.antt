@@ -1,6 +1,6 @@
 -- Four numbers of the grid through the filter and back to their places.
 use borrow.Author.Needs.{needs}
-use Rattle.picture.specs.Level.{cornerFilterAt}
+use Rattle.transform.specs.Level.{cornerFilterAt}
 use Rattle.grid.proofs.Squares.{four-used}
 use Rattle.inverse_levels.proofs.corner_filter_at.Statement.{statement}
 use Rattle.inverse_levels.proofs.corner_filter_at.Tie as tie

@@ -7,7 +7,7 @@ use borrow.Author.Needs.{needs}
 use lib.ListN.{length}
 use lib.IntN.{ℤ}
 use Rattle.lifting.specs.Program.{run}
-use Rattle.picture.specs.Level.{cornerFilterAt, cornerFilters}
+use Rattle.transform.specs.Level.{cornerFilterAt, cornerFilters}
 use Rattle.grid.proofs.Rows.{last-two}
 use Rattle.inverse_levels.proofs.Loops.{then-more}
 use Rattle.inverse_levels.proofs.corners.Statement.{statement}

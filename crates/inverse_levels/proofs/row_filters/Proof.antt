@@ -5,7 +5,7 @@ use native.Mathlib.Omega.{arith}
 use native.Mathlib.Nat.{mul-le-mul-right}
 use lib.ListN.{length}
 use Rattle.lifting.specs.Program.{run, each}
-use Rattle.picture.specs.Level.{cell, fourFilterAt, rowFilters}
+use Rattle.transform.specs.Level.{cell, fourFilterAt, rowFilters}
 use Rattle.inverse_levels.proofs.Loops.{each-none, each-more}
 use Rattle.inverse_levels.proofs.row_filters.Statement.{statement}
 use Rattle.inverse_levels.proofs.row_filters.Tie as tie

@@ -5,7 +5,7 @@ use mathlib.Core.Logic.{⊎-elim}
 use native.Mathlib.Omega.{arith}
 use lib.ListN.{length}
 use Rattle.lifting.specs.Program.{run, each}
-use Rattle.picture.specs.Level.{cell, squareFilterAt}
+use Rattle.transform.specs.Level.{cell, squareFilterAt}
 use Rattle.inverse_levels.proofs.Loops.{each-none, few-squares}
 use Rattle.inverse_levels.proofs.Side.{each-plus}
 use Rattle.inverse_levels.proofs.square_filters_across.Statement.{statement}

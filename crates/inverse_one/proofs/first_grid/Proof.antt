@@ -4,7 +4,7 @@ use mathlib.Core.Path.{_≡_, refl, ap}
 use mathlib.Core.Logic.{by-cases, Dec·and}
 use native.Mathlib.Omega.{arith}
 use native.Mathlib.Decide.{decLt, decLe}
-use Rattle.picture.specs.Planes.{firstGrid}
+use Rattle.transform.specs.Grids.{firstGrid}
 use Rattle.picture.proofs.CheckLaws.{few-macroblocks}
 use Rattle.inverse_levels.specs.Filled.{Filled}
 use Rattle.inverse_levels.proofs.Filled.{filled-none, filled-join, filled-grid}

@@ -6,8 +6,9 @@ use native.Mathlib.Decide.{ℕ-discrete}
 use lib.Arith.{digits-div, digits-mod}
 use Rattle.lifting.specs.Program.{at, put}
 use Rattle.lifting.proofs.Bits.{back}
-use Rattle.picture.specs.Level.{cell, square}
-use Rattle.picture.specs.Planes.{table, coefficients}
+use Rattle.transform.specs.Level.{cell, square}
+use Rattle.picture.specs.Table.{table}
+use Rattle.transform.specs.Grids.{coefficients}
 use Rattle.picture.proofs.CheckLaws.{few-macroblocks}
 use Rattle.inverse_levels.specs.Filled.{Filled}
 use Rattle.inverse_levels.proofs.Filled.{filled-none, filled-one, filled-join}

@@ -9,7 +9,7 @@ use native.Mathlib.Decide.{decLt}
 use lib.ListN.{length, take}
 use lib.IntN.{ℤ}
 use Rattle.lifting.specs.Program.{run}
-use Rattle.picture.specs.Planes.{grid}
+use Rattle.transform.specs.Grids.{grid}
 use Rattle.picture.specs.Sizes.{macroblocks}
 use Rattle.picture.specs.declared.size.Size.{Size}
 use Rattle.grid.proofs.Rows.{row-inside, row-above}

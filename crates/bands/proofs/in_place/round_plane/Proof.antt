@@ -9,7 +9,7 @@ use lib.ListN.{take}
 use Rattle.lifting.specs.Program.{at}
 use Rattle.lifting.specs.Wrap.{wrap}
 use Rattle.lifting.proofs.Bits.{back}
-use Rattle.picture.proofs.UpTo.{UpTo, up-to-none, up-to-more, up-to-next, up-to-mapped}
+use Rattle.transform.proofs.UpTo.{UpTo, up-to-none, up-to-more, up-to-next, up-to-mapped}
 use Rattle.step_sizes.specs.Steps.{stepOf}
 use Rattle.step_sizes.specs.Levels.{quantised, restored}
 use Rattle.step_sizes.proofs.Reciprocal.{every-step-works}

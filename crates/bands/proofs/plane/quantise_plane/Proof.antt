@@ -5,7 +5,7 @@ use native.Mathlib.Omega.{arith}
 use borrow.Author.Needs.{needs}
 use Rattle.lifting.specs.Program.{at}
 use Rattle.lifting.proofs.Bits.{back}
-use Rattle.picture.proofs.UpTo.{UpTo, up-to-none, up-to-more, up-to-mapped}
+use Rattle.transform.proofs.UpTo.{UpTo, up-to-none, up-to-more, up-to-mapped}
 use Rattle.step_sizes.specs.Steps.{stepOf}
 use Rattle.step_sizes.specs.Levels.{quantised}
 use Rattle.bands.proofs.plane.quantise_plane.Statement.{statement}

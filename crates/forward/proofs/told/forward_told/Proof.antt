@@ -6,7 +6,7 @@ use native.Mathlib.Omega.{arith}
 use Rattle.lifting.proofs.Tests.{or-no}
 use Rattle.picture.specs.Sizes.{macroblocks}
 use Rattle.picture.specs.Planes.{Lengths, planes}
-use Rattle.picture.proofs.NoWrap.{first-within}
+use Rattle.transform.proofs.NoWrap.{first-within}
 use Rattle.forward.proofs.Judged.{calm}
 use Rattle.forward.proofs.Whole.{planes-are, wraps-are}
 use Rattle.forward.proofs.told.forward_told.Statement.{statement}

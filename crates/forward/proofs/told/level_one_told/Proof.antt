@@ -4,8 +4,8 @@ use mathlib.Core.Path.{refl, sym, _∙_}
 use borrow.Author.Needs.{needs}
 use Rattle.lifting.specs.Row.{Row}
 use Rattle.lifting.proofs.Tests.{or-no}
-use Rattle.picture.proofs.Grid.{row-first}
-use Rattle.picture.proofs.NoWrap.{first-within}
+use Rattle.transform.proofs.Grid.{row-first}
+use Rattle.transform.proofs.NoWrap.{first-within}
 use Rattle.forward_one_grid.specs.Held.{numbers}
 use Rattle.large_numbers.proofs.Small.{row-as}
 use Rattle.forward.proofs.Judged.{calm, judged}

@@ -3,7 +3,7 @@ use Prim.Native.Nat.{_-_, _*_, _≤_}
 use mathlib.Core.Path.{_≡_}
 use native.Mathlib.Omega.{arith}
 use borrow.Author.Needs.{needs}
-use Rattle.picture.specs.Level.{squareFilters}
+use Rattle.transform.specs.Level.{squareFilters}
 use Rattle.grid.proofs.Rows.{row-above}
 use Rattle.forward_one_filters.specs.Windows.{filtersOfRow}
 use Rattle.forward_one_filters.proofs.Undoing.{Undoing, undoing-start, undoing-step, undoing-end}

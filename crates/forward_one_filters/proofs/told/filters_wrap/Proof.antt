@@ -10,8 +10,8 @@ use lib.IntN.{ℤ}
 use Rattle.lifting.specs.Wraps.{undoWraps}
 use Rattle.lifting.specs.AnyUse.{anyUse}
 use Rattle.picture.specs.declared.size.Size.{Size}
-use Rattle.picture.specs.Level.{squareFilters, filters}
-use Rattle.picture.proofs.Told.{filters-told}
+use Rattle.transform.specs.Level.{squareFilters, filters}
+use Rattle.transform.proofs.Told.{filters-told}
 use Rattle.forward_one_grid.specs.Held.{numbers, Held}
 use Rattle.forward_one_filters.specs.Edges.{edges, corners}
 use Rattle.forward_one_filters.proofs.Edges.{bottom-row, last-square, rows-are, columns-are, corners-are}

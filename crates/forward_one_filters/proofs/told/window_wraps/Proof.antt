@@ -4,7 +4,7 @@ use Rattle.lifting.specs.Program.{SquareFilter}
 use Rattle.lifting.specs.Wraps.{undoWraps}
 use Rattle.lifting.proofs.AnyUse.{use-told}
 use Rattle.figures.specs.Figures.{squareFilter}
-use Rattle.picture.specs.Level.{squareFilterAt}
+use Rattle.transform.specs.Level.{squareFilterAt}
 use Rattle.forward_one_filters.proofs.told.window_wraps.Statement.{statement}
 use Rattle.forward_one_filters.proofs.told.window_wraps.Tie as tie
 

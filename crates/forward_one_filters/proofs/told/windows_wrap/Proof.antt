@@ -5,7 +5,7 @@ use native.Mathlib.Omega.{arith}
 use borrow.Author.Needs.{needs}
 use Rattle.lifting.specs.Wraps.{undoWraps}
 use Rattle.lifting.proofs.AnyUse.{Walked, walk-begins, walk-goes-on, walk-finds, walk-ends}
-use Rattle.picture.specs.Level.{squareFilters}
+use Rattle.transform.specs.Level.{squareFilters}
 use Rattle.picture.proofs.CheckLaws.{few-macroblocks}
 use Rattle.grid.proofs.Rows.{row-inside}
 use Rattle.forward_one_grid.specs.Held.{numbers}

@@ -14,9 +14,10 @@ use Rattle.lifting.proofs.Tests.{or-no}
 use Rattle.picture.specs.declared.mode.Mode.{Mode}
 use Rattle.picture.specs.declared.size.Size.{Size}
 use Rattle.picture.specs.Sizes.{macroblocks}
-use Rattle.picture.specs.Planes.{Planes, firstGrid, secondGrid}
-use Rattle.picture.specs.Transform.{levelOne, levelTwo, quarterBy, inverseBy}
-use Rattle.picture.specs.Wraps.{quarterWrapsBy, inverseWrapsBy}
+use Rattle.picture.specs.Planes.{Planes}
+use Rattle.transform.specs.Grids.{firstGrid, secondGrid}
+use Rattle.transform.specs.Transform.{levelOne, levelTwo, quarterBy, inverseBy}
+use Rattle.transform.specs.Wraps.{quarterWrapsBy, inverseWrapsBy}
 use Rattle.inverse.proofs.Judged.{second-calm}
 use Rattle.inverse.proofs.told.inverse_told.Statement.{statement}
 use Rattle.inverse.proofs.told.inverse_told.Tie as tie

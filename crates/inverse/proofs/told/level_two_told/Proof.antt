@@ -9,9 +9,9 @@ use lib.Seq.{length-take-le}
 use Rattle.lifting.specs.Row.{Row}
 use Rattle.lifting.specs.Wraps.{wraps, Within}
 use Rattle.lifting.proofs.Tests.{or-no}
-use Rattle.picture.specs.Level.{cores}
+use Rattle.transform.specs.Level.{cores}
 use Rattle.picture.specs.Sizes.{macroblocks}
-use Rattle.picture.specs.Planes.{secondGrid}
+use Rattle.transform.specs.Grids.{secondGrid}
 use Rattle.large_numbers.proofs.Small.{row-as}
 use Rattle.inverse.proofs.Judged.{core-wraps, second-calm, second-filter-wraps}
 use Rattle.inverse.proofs.told.level_two_told.Statement.{statement}

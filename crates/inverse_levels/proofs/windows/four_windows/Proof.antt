@@ -3,7 +3,7 @@ use mathlib.Core.Path.{_≡_}
 use native.Mathlib.Omega.{arith}
 use Rattle.lifting.specs.Program.{SquareFilter}
 use Rattle.figures.specs.Figures.{squareFilter}
-use Rattle.picture.specs.Level.{squareFilterAt}
+use Rattle.transform.specs.Level.{squareFilterAt}
 use Rattle.inverse_levels.proofs.Loops.{each-none}
 use Rattle.inverse_levels.proofs.Side.{side-more}
 use borrow.Author.Needs.{needs}

@@ -1,6 +1,6 @@
 -- The square's numbers through the operator and back to their places.
 use borrow.Author.Needs.{needs}
-use Rattle.picture.specs.Level.{coreAt}
+use Rattle.transform.specs.Level.{coreAt}
 use Rattle.grid.proofs.Squares.{used}
 use Rattle.inverse_one.proofs.cores.core_at.Statement.{statement}
 use Rattle.inverse_one.proofs.cores.core_at.Tie as tie

@@ -4,7 +4,7 @@ use mathlib.Core.Path.{_≡_, refl, _∙_}
 use native.Mathlib.Omega.{arith}
 use lib.ListN.{length}
 use Rattle.lifting.specs.Program.{run, each}
-use Rattle.picture.specs.Level.{cell, coreAt, cores}
+use Rattle.transform.specs.Level.{cell, coreAt, cores}
 use Rattle.inverse_levels.proofs.Loops.{each-none, each-more}
 use Rattle.grid.proofs.Rows.{row-inside}
 use Rattle.inverse_one.proofs.cores.cores.Statement.{statement}

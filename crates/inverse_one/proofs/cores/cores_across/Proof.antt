@@ -4,7 +4,7 @@ use mathlib.Core.Path.{_≡_, refl, _∙_, ap₂}
 use native.Mathlib.Omega.{arith}
 use lib.ListN.{length}
 use Rattle.lifting.specs.Program.{run, each}
-use Rattle.picture.specs.Level.{cell, coreAt}
+use Rattle.transform.specs.Level.{cell, coreAt}
 use Rattle.inverse_levels.proofs.Loops.{each-none, each-more, few-squares}
 use Rattle.inverse_one.proofs.cores.cores_across.Statement.{statement}
 use Rattle.inverse_one.proofs.cores.cores_across.Tie as tie

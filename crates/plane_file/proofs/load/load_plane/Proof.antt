@@ -6,7 +6,7 @@ use lib.IntN.{pos}
 use borrow.Author.Needs.{needs}
 use Rattle.lifting.specs.Wrap.{wrap}
 use Rattle.lifting.proofs.Bits.{back}
-use Rattle.picture.proofs.UpTo.{UpTo, up-to-none, up-to-more, up-to-all}
+use Rattle.transform.proofs.UpTo.{UpTo, up-to-none, up-to-more, up-to-all}
 use Rattle.plane_file.specs.Words.{numberAt, numbersAt}
 use Rattle.plane_file.proofs.load.load_plane.Statement.{statement}
 use Rattle.plane_file.proofs.load.load_plane.Tie as tie

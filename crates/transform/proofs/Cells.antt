@@ -7,7 +7,7 @@ use native.Mathlib.Omega.{arith}
 use native.Mathlib.Nat.{add-mul}
 use lib.Arith.{digits-div, digits-mod}
 use Rattle.lifting.proofs.Between.{All, all-map}
-use Rattle.picture.specs.Level.{cell, strip, square, corner}
+use Rattle.transform.specs.Level.{cell, strip, square, corner}
 
 -- the cell of row (or column) r
 abbrev pub zone : ℕ → ℕ → ℕ

@@ -8,8 +8,8 @@ use lib.ListN.{length, drop, getD, set, length-set}
 use lib.Seq.{drop-cons, drop-length, set-at, getD-at}
 use lib.IntN.{ℤ, pos}
 use Rattle.lifting.specs.Program.{at}
-use Rattle.picture.specs.Planes.{table}
+use Rattle.picture.specs.Table.{table}
 use Rattle.picture.proofs.Table.{length-table}
 
 table-more : (n : ℕ) (f : ℕ → ℤ) → table (suc n) f ≡ table n f ++ (f n ∷ [])
 unfolding table

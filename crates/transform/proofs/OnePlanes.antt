@@ -11,15 +11,16 @@ use Rattle.lifting.specs.Program.{run, undo}
 use Rattle.lifting.specs.Row.{Row}
 use Rattle.lifting.specs.Valid.{valid}
 use Rattle.lifting.proofs.Reverse.{undo-run, run-undo, row-run, row-undo}
 use Rattle.picture.specs.declared.size.Size.{Size}
 use Rattle.picture.specs.Sizes.{Sized, macroblocks}
-use Rattle.picture.specs.Planes.{Planes, PlanesOf, firstGrid, secondGrid, dcOf, lowOf, viewOf, highOf}
+use Rattle.picture.specs.Planes.{Planes, PlanesOf}
+use Rattle.transform.specs.Grids.{firstGrid, secondGrid, dcOf, lowOf, viewOf, highOf}
 use Rattle.picture.specs.declared.mode.Mode.{Mode}
-use Rattle.picture.specs.Transform.{levelOne, levelTwo, quarterBy, inverseBy, secondUndone, firstUndone, forwardBy}
+use Rattle.transform.specs.Transform.{levelOne, levelTwo, quarterBy, inverseBy, secondUndone, firstUndone, forwardBy}
 use Rattle.picture.specs.Modes.{modeOf}
-use Rattle.picture.specs.Claims.{OnePlanes}
-use Rattle.picture.proofs.Grid.{dc-of-first, low-of-first, first-of-parts, view-of-second, high-of-second, second-of-parts, row-first, row-second, row-dc, row-low, row-view, row-high}
-use Rattle.picture.proofs.Levels.{level-valid}
+use Rattle.transform.specs.Claims.{OnePlanes}
+use Rattle.transform.proofs.Grid.{dc-of-first, low-of-first, first-of-parts, view-of-second, high-of-second, second-of-parts, row-first, row-second, row-dc, row-low, row-view, row-high}
+use Rattle.transform.proofs.Levels.{level-valid}
 
 module _ (mode : Mode) (size : Size) (sized : Sized size) where
   abbrev W : ℕ

@@ -5,11 +5,11 @@ use mathlib.Core.List.{List}
 use lib.IntN.{ℤ}
 use Rattle.lifting.specs.Program.{at}
 use Rattle.lifting.specs.Row.{Row}
 use Rattle.picture.specs.declared.size.Size.{Size}
-use Rattle.picture.specs.Sizes.{Sized, macroblocks}
+use Rattle.picture.specs.Sizes.{Shape, macroblocks}
 use Rattle.picture.specs.Planes.{Planes, PlanesOf}
-use Rattle.picture.specs.Transform.{inverse, forward}
-use Rattle.picture.specs.Windows.{InNoWindow}
+use Rattle.transform.specs.Transform.{inverse, forward}
+use Rattle.transform.specs.Windows.{InNoWindow}
 
 -- `forward` of these samples is a set of planes that gives them, and no other does
 pub record OnePlanes (mode : ℕ) (size : Size) (samples : List ℤ) : Type 0 where
@@ -22,11 +22,6 @@ pub record WholePictures (mode : ℕ) (size : Size) : Type 0 where
   pub one-set : (samples : List ℤ) → Row (256 * macroblocks size) samples → OnePlanes mode size samples
   pub windows : (s t : Planes) (y x : ℕ) → x < 16 * size .width .0 → InNoWindow mode size s t y x
       → at (inverse mode size s) (y * (16 * size .width .0) + x) ≡ at (inverse mode size t) (y * (16 * size .width .0) + x)
-
--- modes 0, 1 and 2; W from 1 to 525 and H from 1 to 413
-pub record Shape (mode : ℕ) (size : Size) : Type 0 where
-  pub known : mode ≤ 2
-  pub sized : Sized size
 
 abbrev pub WholePictureClaim : Type 0
 WholePictureClaim = (mode : ℕ) (size : Size) → Shape mode size → WholePictures mode size

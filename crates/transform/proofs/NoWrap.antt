@@ -14,15 +14,17 @@ use Rattle.lifting.proofs.Forms.{within-le}
 use Rattle.lifting.proofs.Calm.{Calm, run-joins, undo-joins, run-use, undo-use}
 use Rattle.figures.specs.Figures.{core, squareFilter, fourFilter}
 use Rattle.figures.proofs.Growth.{core-grows, square-filter-grows, four-filter-grows, core-undone-grows, square-filter-undone-grows, four-filter-undone-grows}
-use Rattle.picture.specs.Level.{square, coreAt, squareFilterAt, cores, filters, level}
-use Rattle.picture.specs.Planes.{Planes, table, grid, coefficients, firstGrid, secondGrid, viewOf}
+use Rattle.transform.specs.Level.{square, coreAt, squareFilterAt, cores, filters, level}
+use Rattle.picture.specs.Planes.{Planes}
+use Rattle.picture.specs.Table.{table}
+use Rattle.transform.specs.Grids.{grid, coefficients, firstGrid, secondGrid, viewOf}
 use Rattle.picture.specs.declared.size.Size.{Size}
 use Rattle.picture.specs.declared.mode.Mode.{Mode}
 use Rattle.picture.specs.Modes.{modeOf}
 use Rattle.picture.specs.Sizes.{Sized}
-use Rattle.picture.specs.Transform.{quarterBy, secondUndone}
-use Rattle.picture.specs.Wraps.{quarterWrapsBy, inverseWrapsBy, forwardWrapsBy, PlanesWithin, InverseDoesNotWrap, ForwardDoesNotWrap}
-use Rattle.picture.proofs.Apart.{of-cores, of-filters}
+use Rattle.transform.specs.Transform.{quarterBy, secondUndone}
+use Rattle.transform.specs.Wraps.{quarterWrapsBy, inverseWrapsBy, forwardWrapsBy, PlanesWithin, InverseDoesNotWrap, ForwardDoesNotWrap}
+use Rattle.transform.proofs.Apart.{of-cores, of-filters}
 
 -- ---- what a program, run or undone, makes of numbers of at most B: nothing wraps, and they become at most C
 

@@ -8,8 +8,8 @@ use Rattle.lifting.specs.Program.{Program, end, apply, FourFilter, _then_}
 use Rattle.lifting.proofs.Between.{All}
 use Rattle.lifting.proofs.Apart.{Joins, of-each}
 use Rattle.figures.specs.Figures.{fourFilter}
-use Rattle.picture.specs.Level.{cell, square, coreAt, squareFilterAt, fourFilterAt, cornerFilterAt, cores, squareFilters, rowFilters, columnFilters, alongEdges, cornerFilters, filters}
-use Rattle.picture.proofs.Cells.{row, column, on-across, on-down, on-corner, on-square}
+use Rattle.transform.specs.Level.{cell, square, coreAt, squareFilterAt, fourFilterAt, cornerFilterAt, cores, squareFilters, rowFilters, columnFilters, alongEdges, cornerFilters, filters}
+use Rattle.transform.proofs.Cells.{row, column, on-across, on-down, on-corner, on-square}
 
 -- which of the outer two lines on either side a row (or column) r of n squares is, or an inner one: 0, 1, 3, 4; 2
 unfoldable side : ℕ → ℕ → ℕ

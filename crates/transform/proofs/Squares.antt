@@ -12,10 +12,11 @@ use Rattle.lifting.proofs.Reverse.{get-put}
 use Rattle.lifting.proofs.Uses.{places-map}
 use Rattle.lifting.proofs.Between.{All}
 use Rattle.lifting.proofs.Locality.{agree-refl, put-keeps}
-use Rattle.picture.specs.Level.{cell, square}
-use Rattle.picture.specs.Planes.{table, squareOf, coefficientOf, place}
+use Rattle.transform.specs.Level.{cell, square}
+use Rattle.picture.specs.Table.{table}
+use Rattle.transform.specs.Grids.{squareOf, coefficientOf, place}
 use Rattle.picture.proofs.Table.{at-table}
-use Rattle.picture.proofs.Geometry.{square-of-place, coefficient-of-place, place-low}
+use Rattle.transform.proofs.Geometry.{square-of-place, coefficient-of-place, place-low}
 
 abbrev pub sixteen : List ℕ
 sixteen = 0 ∷ 1 ∷ 2 ∷ 3 ∷ 4 ∷ 5 ∷ 6 ∷ 7 ∷ 8 ∷ 9 ∷ 10 ∷ 11 ∷ 12 ∷ 13 ∷ 14 ∷ 15 ∷ []

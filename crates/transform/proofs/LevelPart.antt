@@ -13,14 +13,14 @@ use lib.ListN.{length}
 use lib.IntN.{ℤ}
 use Rattle.lifting.specs.Program.{at, run, runBy}
 use Rattle.lifting.proofs.Compose.{run-then}
-use Rattle.picture.specs.Level.{cell, cores, filters, level}
-use Rattle.picture.specs.Planes.{grid, squareOf, coefficientOf}
-use Rattle.picture.specs.Windows.{Near, Window}
+use Rattle.transform.specs.Level.{cell, cores, filters, level}
+use Rattle.transform.specs.Grids.{grid, squareOf, coefficientOf}
+use Rattle.transform.specs.Windows.{Near, Window}
 use Rattle.picture.proofs.Table.{at-table}
-use Rattle.picture.proofs.Grid.{length-grid}
-use Rattle.picture.proofs.Cells.{zone}
+use Rattle.transform.proofs.Grid.{length-grid}
+use Rattle.transform.proofs.Cells.{zone}
 use Rattle.lifting.proofs.Between.{Alike}
-use Rattle.picture.proofs.Part.{Twin, cores-like, filters-like}
+use Rattle.transform.proofs.Part.{Twin, cores-like, filters-like}
 
 -- how far beyond a square's own places its numbers reach
 abbrev pub reach : Bool → ℕ

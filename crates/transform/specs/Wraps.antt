@@ -5,12 +5,13 @@ use mathlib.Core.Bool.{Bool, false, _||_}
 use mathlib.Core.List.{List}
 use lib.IntN.{ℤ}
 use Rattle.lifting.specs.Wraps.{wraps, undoWraps, Within}
 use Rattle.picture.specs.declared.size.Size.{Size}
 use Rattle.picture.specs.declared.mode.Mode.{Mode}
 use Rattle.picture.specs.Modes.{modeOf}
-use Rattle.picture.specs.Planes.{Planes, PlanesOf, firstGrid, secondGrid, viewOf}
-use Rattle.picture.specs.Transform.{levelOne, levelTwo, quarterBy, inverse, secondUndone}
-use Rattle.picture.specs.Claims.{Shape}
+use Rattle.picture.specs.Planes.{Planes, PlanesOf}
+use Rattle.transform.specs.Grids.{firstGrid, secondGrid, viewOf}
+use Rattle.transform.specs.Transform.{levelOne, levelTwo, quarterBy, inverse, secondUndone}
+use Rattle.picture.specs.Sizes.{Shape}
 
 -- in level one on its grid, and in level two on its own
 unfoldable pub quarterWrapsBy : Mode → Size → List ℤ → List ℤ → Bool

@@ -5,7 +5,7 @@ use mathlib.Core.Path.{_≡_, sym, _∙_, ap}
 use native.Mathlib.Omega.{arith}
 use native.Mathlib.Nat.{mod-lt, div-add-mod', div-lt-iff-lt-mul}
 use lib.Arith.{digits-lt, digits-div, digits-mod}
-use Rattle.picture.specs.Planes.{squareOf, coefficientOf, place, blockOrder, blockAt}
+use Rattle.transform.specs.Grids.{squareOf, coefficientOf, place, blockOrder, blockAt}
 
 -- ---- a grid of p squares across
 

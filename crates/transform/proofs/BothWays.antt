@@ -5,15 +5,16 @@ use Rattle.lifting.specs.Wraps.{wraps, undoWraps}
 use Rattle.lifting.proofs.Reverse.{undo-run}
 use mathlib.Core.Bool.{or-comm}
 use Rattle.lifting.proofs.Turned.{wraps-turned}
 use Rattle.picture.specs.declared.size.Size.{Size}
 use Rattle.picture.specs.declared.mode.Mode.{Mode}
 use Rattle.picture.specs.Modes.{modeOf}
 use Rattle.picture.specs.Sizes.{Sized}
-use Rattle.picture.specs.Planes.{Planes, PlanesOf, secondGrid, viewOf}
-use Rattle.picture.specs.Transform.{levelOne, levelTwo, quarterBy, inverseBy, secondUndone}
-use Rattle.picture.specs.Wraps.{quarterWrapsBy, inverseWrapsBy, forwardWrapsBy, WrapsBothWays}
-use Rattle.picture.proofs.Grid.{row-first, view-of-second}
-use Rattle.picture.proofs.OnePlanes.{first-valid, second-valid, row-quarter, grid-row}
+use Rattle.picture.specs.Planes.{Planes, PlanesOf}
+use Rattle.transform.specs.Grids.{secondGrid, viewOf}
+use Rattle.transform.specs.Transform.{levelOne, levelTwo, quarterBy, inverseBy, secondUndone}
+use Rattle.transform.specs.Wraps.{quarterWrapsBy, inverseWrapsBy, forwardWrapsBy, WrapsBothWays}
+use Rattle.transform.proofs.Grid.{row-first, view-of-second}
+use Rattle.transform.proofs.OnePlanes.{first-valid, second-valid, row-quarter, grid-row}
 
 module _ (mode : Mode) (size : Size) (sized : Sized size) {s : Planes} (r : PlanesOf size s) where
   abbrev W : ℕ

@@ -13,10 +13,10 @@ use Rattle.lifting.proofs.Between.{All, all-map, Like, like-then, none-left}
 use Rattle.lifting.proofs.Locality.{Agree, agree-refl, use-inside, use-outside}
 use Rattle.lifting.proofs.Reverse.{length-put}
 use Rattle.figures.specs.Figures.{core, coreStages}
-use Rattle.picture.specs.Level.{cell, square, coreAt, cores}
-use Rattle.picture.specs.Planes.{place}
-use Rattle.picture.proofs.Squares.{square-is, own}
-use Rattle.picture.proofs.Cells.{InCell, in-cell, core-in-cell}
+use Rattle.transform.specs.Level.{cell, square, coreAt, cores}
+use Rattle.transform.specs.Grids.{place}
+use Rattle.transform.proofs.Squares.{square-is, own}
+use Rattle.transform.proofs.Cells.{InCell, in-cell, core-in-cell}
 
 -- a and b do the same inside P
 abbrev pub Does : (ℕ → Type 0) → Program → Program → Type 0

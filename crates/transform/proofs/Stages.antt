@@ -2,7 +2,7 @@
 use Prim.Native.Nat.{ℕ, zero, suc, _+_, _-_, _*_, _≤_, _<_}
 use native.Mathlib.Omega.{arith}
 use Rattle.lifting.specs.Program.{Program, end, _then_, each}
-use Rattle.picture.specs.Level.{cell, coreAt, squareFilterAt, fourFilterAt, cornerFilterAt, cores, squareFilters, rowFilters, columnFilters, alongEdges, cornerFilters, filters}
+use Rattle.transform.specs.Level.{cell, coreAt, squareFilterAt, fourFilterAt, cornerFilterAt, cores, squareFilters, rowFilters, columnFilters, alongEdges, cornerFilters, filters}
 
 -- P of each use of the core transform, and of each use of a filter, in a grid of p by q squares
 abbrev pub OfCores : (Program → Type 0) → ℕ → ℕ → Type 0

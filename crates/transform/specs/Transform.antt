@@ -3,11 +3,12 @@ use Prim.Native.Nat.{ℕ, _*_}
 use mathlib.Core.List.{List}
 use lib.IntN.{ℤ}
 use Rattle.lifting.specs.Program.{Program, run, undo}
 use Rattle.picture.specs.declared.size.Size.{Size}
 use Rattle.picture.specs.declared.mode.Mode.{Mode}
 use Rattle.picture.specs.Modes.{modeOf}
-use Rattle.picture.specs.Level.{level}
-use Rattle.picture.specs.Planes.{Planes, planes, firstGrid, secondGrid, dcOf, lowOf, viewOf, highOf}
+use Rattle.transform.specs.Level.{level}
+use Rattle.picture.specs.Planes.{Planes, planes}
+use Rattle.transform.specs.Grids.{firstGrid, secondGrid, dcOf, lowOf, viewOf, highOf}
 
 -- the two levels of a picture: a square is a macroblock in the first, and a block in the second
 abbrev pub levelOne : Mode → Size → Program

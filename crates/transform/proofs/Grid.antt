@@ -11,9 +11,10 @@ use mir.Val.{SFits}
 use mir.Syntax.{w32}
 use Rattle.lifting.specs.Program.{at}
 use Rattle.lifting.specs.Row.{Row}
-use Rattle.picture.specs.Planes.{table, squareOf, coefficientOf, place, grid, coefficients, blockOrder, blockAt, firstGrid, secondGrid, dcOf, lowOf, viewOf, highOf}
+use Rattle.picture.specs.Table.{table}
+use Rattle.transform.specs.Grids.{squareOf, coefficientOf, place, grid, coefficients, blockOrder, blockAt, firstGrid, secondGrid, dcOf, lowOf, viewOf, highOf}
 use Rattle.picture.proofs.Table.{length-table, at-table, table-is, row-table}
-use Rattle.picture.proofs.Geometry.{square-of-place, coefficient-of-place, place-of-square, place-low, square-low, coefficient-low, order-of-block, block-of-order, block-low, order-low}
+use Rattle.transform.proofs.Geometry.{square-of-place, coefficient-of-place, place-of-square, place-low, square-low, coefficient-low, order-of-block, block-of-order, block-low, order-low}
 
 -- ---- a grid of p by q squares
 

@@ -4,9 +4,10 @@ use mathlib.Core.Path.{_≡_}
 use mathlib.Core.List.{List}
 use lib.IntN.{ℤ}
 use Rattle.lifting.specs.Program.{at}
 use Rattle.picture.specs.declared.size.Size.{Size}
 use Rattle.picture.specs.Sizes.{macroblocks}
-use Rattle.picture.specs.Planes.{Planes, blockOrder}
+use Rattle.picture.specs.Planes.{Planes}
+use Rattle.transform.specs.Grids.{blockOrder}
 
 -- x lies among `count` places from `first` on, or at most `margin` before or after them
 pub record Near (margin first count x : ℕ) : Type 0 where

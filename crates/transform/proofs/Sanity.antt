@@ -16,16 +16,18 @@ use Rattle.lifting.specs.Valid.{places}
 use Rattle.lifting.specs.Wrap.{wrap}
 use Rattle.lifting.specs.Program.{end, at, run, line, value, get, put, _then_, each, lineBy, runBy, valueBy}
 use Rattle.figures.specs.Figures.{hadamard, odd, oddOdd, core, coreStages, rotation, scale, postHadamard, postOddOdd, fourFilter, squareFilter}
 use Rattle.picture.specs.declared.size.Size.{Size}
-use Rattle.picture.specs.Level.{square, corner, coreAt, squareFilterAt, fourFilterAt, cornerFilterAt, cores, squareFilters, rowFilters, columnFilters, cornerFilters, filters, level}
+use Rattle.transform.specs.Level.{square, corner, coreAt, squareFilterAt, fourFilterAt, cornerFilterAt, cores, squareFilters, rowFilters, columnFilters, cornerFilters, filters, level}
 use Rattle.picture.specs.Modes.{modeOf}
-use Rattle.picture.specs.Planes.{Planes, PlanesOf, table, grid, blockOrder, firstGrid, secondGrid}
-use Rattle.picture.specs.Windows.{highMargin, lowMargin}
-use Rattle.picture.specs.Claims.{Shape}
-use Rattle.picture.specs.Transform.{quarterBy, inverseBy, inverse, forward}
+use Rattle.picture.specs.Planes.{Planes, PlanesOf}
+use Rattle.picture.specs.Table.{table}
+use Rattle.transform.specs.Grids.{grid, blockOrder, firstGrid, secondGrid}
+use Rattle.transform.specs.Windows.{highMargin, lowMargin}
+use Rattle.picture.specs.Sizes.{Shape}
+use Rattle.transform.specs.Transform.{quarterBy, inverseBy, inverse, forward}
 use Rattle.picture.proofs.Table.{row-table}
-use Rattle.picture.proofs.OnePlanes.{row-inverse}
-use Rattle.picture.proofs.WholePictures.{whole-pictures}
+use Rattle.transform.proofs.OnePlanes.{row-inverse}
+use Rattle.transform.proofs.WholePictures.{whole-pictures}
 
 abbrev pub of : ℕ → ℕ → Size
 of W H = record { width = record { 0 = W }; height = record { 0 = H } }

@@ -10,8 +10,8 @@ use native.Mathlib.Nat.{add-mul}
 use lib.Arith.{digits-div, digits-mod}
 use Rattle.lifting.specs.Program.{Program, end, apply, _then_, Operator, Core, SquareFilter, FourFilter}
 use Rattle.figures.specs.Figures.{core, squareFilter, fourFilter}
-use Rattle.picture.specs.Level.{cell, strip, square, corner, coreAt, squareFilterAt, fourFilterAt, cornerFilterAt, cores, squareFilters, rowFilters, columnFilters, cornerFilters, filters}
-use Rattle.picture.proofs.Cells.{zone, InCell, core-in-cell, square-filter-in-cell, row-filter-in-cell, column-filter-in-cell, corner-filter-in-cell}
+use Rattle.transform.specs.Level.{cell, strip, square, corner, coreAt, squareFilterAt, fourFilterAt, cornerFilterAt, cores, squareFilters, rowFilters, columnFilters, cornerFilters, filters}
+use Rattle.transform.proofs.Cells.{zone, InCell, core-in-cell, square-filter-in-cell, row-filter-in-cell, column-filter-in-cell, corner-filter-in-cell}
 use Rattle.lifting.proofs.Between.{All, all-map, Pairing, OneToOne, Pairs, FreeLeft, FreeRight, Alike, Like, pairs-append, like-then, free-left, free-right, both-free, like-all, like-each, like-use}
 
 -- row r, column c of the small grid and row r, column 4 * k + c of the wide one, in a cell of Q

@@ -22,13 +22,14 @@ use Rattle.lifting.proofs.Turned.{wraps-turned, undo-wraps-turned}
 use Rattle.lifting.proofs.AnyUse.{any-use-then, any-use-each, any-use-apply}
 use Rattle.lifting.proofs.Apart.{run-alone, undone-alone, run-alone-use, undone-alone-use}
 use Rattle.figures.specs.Figures.{core, squareFilter, fourFilter}
-use Rattle.picture.specs.Level.{cell, square, coreAt, squareFilterAt, squareFilters, rowFilters, columnFilters, alongEdges, cornerFilters, cores, filters, filtersIf, level}
-use Rattle.picture.specs.Planes.{table, grid}
+use Rattle.transform.specs.Level.{cell, square, coreAt, squareFilterAt, squareFilters, rowFilters, columnFilters, alongEdges, cornerFilters, cores, filters, filtersIf, level}
+use Rattle.picture.specs.Table.{table}
+use Rattle.transform.specs.Grids.{grid}
 use Rattle.picture.proofs.Table.{table-same}
-use Rattle.picture.proofs.Grid.{at-grid}
-use Rattle.picture.proofs.Squares.{square-places}
-use Rattle.picture.proofs.Levels.{cores-valid, filters-valid}
-use Rattle.picture.proofs.Apart.{of-cores, of-filters}
+use Rattle.transform.proofs.Grid.{at-grid}
+use Rattle.transform.proofs.Squares.{square-places}
+use Rattle.transform.proofs.Levels.{cores-valid, filters-valid}
+use Rattle.transform.proofs.Apart.{of-cores, of-filters}
 
 -- ---- stages
 

@@ -13,8 +13,8 @@ use Rattle.lifting.specs.Valid.{notIn, places, valid}
 use Rattle.lifting.proofs.Uses.{valid-then}
 use Rattle.figures.specs.Figures.{core, squareFilter, fourFilter}
 use Rattle.figures.proofs.Figures.{core-valid, square-filter-valid, four-filter-valid}
-use Rattle.picture.specs.Level.{cell, strip, square, corner, coreAt, squareFilterAt, fourFilterAt, cornerFilterAt, cores, filters, level}
-use Rattle.picture.proofs.Stages.{OfCores, OfFilters, of-cores, of-filters}
+use Rattle.transform.specs.Level.{cell, strip, square, corner, coreAt, squareFilterAt, fourFilterAt, cornerFilterAt, cores, filters, level}
+use Rattle.transform.proofs.Stages.{OfCores, OfFilters, of-cores, of-filters}
 
 -- ---- places that rise, the first not below m and the last below n
 

@@ -11,17 +11,18 @@ use lib.IntN.{ℤ, pos}
 use Rattle.lifting.specs.Program.{Program, at, run, _then_, runBy}
 use Rattle.lifting.proofs.Compose.{run-then}
 use Rattle.lifting.proofs.Reverse.{length-put}
 use Rattle.picture.specs.declared.size.Size.{Size}
-use Rattle.picture.specs.Sizes.{Sized, macroblocks}
-use Rattle.picture.specs.Level.{coreAt, squareFilterAt, fourFilterAt, cornerFilterAt, level}
-use Rattle.picture.specs.Planes.{Planes, secondGrid}
-use Rattle.picture.specs.Transform.{inverseBy, inverse}
-use Rattle.picture.specs.Windows.{InNoWindow}
-use Rattle.picture.specs.Claims.{Shape, WholePictures, WholePictureClaim}
-use Rattle.picture.proofs.Grid.{length-grid}
-use Rattle.picture.proofs.Stages.{OfCores, OfFilters, of-cores, of-filters}
-use Rattle.picture.proofs.OnePlanes.{one-set-of-planes}
-use Rattle.picture.proofs.Windows.{sample-alike}
+use Rattle.picture.specs.Sizes.{Sized, macroblocks, Shape}
+use Rattle.transform.specs.Level.{coreAt, squareFilterAt, fourFilterAt, cornerFilterAt, level}
+use Rattle.picture.specs.Planes.{Planes}
+use Rattle.transform.specs.Grids.{secondGrid}
+use Rattle.transform.specs.Transform.{inverseBy, inverse}
+use Rattle.transform.specs.Windows.{InNoWindow}
+use Rattle.transform.specs.Claims.{WholePictures, WholePictureClaim}
+use Rattle.transform.proofs.Grid.{length-grid}
+use Rattle.transform.proofs.Stages.{OfCores, OfFilters, of-cores, of-filters}
+use Rattle.transform.proofs.OnePlanes.{one-set-of-planes}
+use Rattle.transform.proofs.Windows.{sample-alike}
 
 -- ---- a level keeps the length of what it works on, since each use stores where it read
 

@@ -12,15 +12,15 @@ use native.Mathlib.Nat.{mod-lt, div-add-mod', div-lt-iff-lt-mul}
 use lib.Arith.{digits-div, digits-mod, digits-lt}
 use lib.IntN.{ℤ, ℤ-discrete}
 use Rattle.lifting.specs.Program.{at, run}
-use Rattle.picture.specs.Level.{cell, level}
-use Rattle.picture.specs.Planes.{Planes, grid, coefficients, firstGrid, secondGrid}
+use Rattle.transform.specs.Level.{cell, level}
+use Rattle.picture.specs.Planes.{Planes}
+use Rattle.transform.specs.Grids.{grid, coefficients, firstGrid, secondGrid}
 use Rattle.picture.specs.declared.size.Size.{Size}
-use Rattle.picture.specs.Sizes.{Sized, macroblocks}
+use Rattle.picture.specs.Sizes.{Sized, macroblocks, Shape}
 use Rattle.picture.specs.Modes.{filtersOne, filtersTwo}
-use Rattle.picture.specs.Transform.{quarterBy, quarter, inverseBy, inverse}
-use Rattle.picture.specs.Windows.{Near, Window, highMargin, lowMargin, BlockWindow, MacroblockWindow, AlikeInBlock, AlikeInMacroblock, InNoWindow}
-use Rattle.picture.specs.Claims.{Shape}
-use Rattle.picture.proofs.LevelPart.{reach, level-on-part}
+use Rattle.transform.specs.Transform.{quarterBy, quarter, inverseBy, inverse}
+use Rattle.transform.specs.Windows.{Near, Window, highMargin, lowMargin, BlockWindow, MacroblockWindow, AlikeInBlock, AlikeInMacroblock, InNoWindow}
+use Rattle.transform.proofs.LevelPart.{reach, level-on-part}
 
 -- ---- one level
 

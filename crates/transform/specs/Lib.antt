@@ -1,0 +1,6 @@
+pub mod Level
+pub mod Grids
+pub mod Transform
+pub mod Windows
+pub mod Claims
+pub mod Wraps
