@@ -22,6 +22,8 @@ pub struct Failure {
 #[derive(Debug)]
 enum Cause {
     Refused(Refusal),
+    /// Refused, and nothing like what was wanted.
+    Foreign(Refusal),
     System(io::Error),
     Words(String),
     Usage(String),
@@ -31,6 +33,11 @@ impl Failure {
     /// The library's answer to what is in a file.
     pub fn refused(file: &Path, refusal: Refusal) -> Self {
         Failure::at(file, Cause::Refused(refusal))
+    }
+
+    /// The library's answer to a file that seems to be something else than a plane file.
+    pub fn refused_as_foreign(file: &Path, refusal: Refusal) -> Self {
+        Failure::at(file, Cause::Foreign(refusal))
     }
 
     /// The system's answer to reading or writing a file.
@@ -75,6 +82,10 @@ impl fmt::Display for Failure {
         write!(f, "{}: ", self.file)?;
         match &self.cause {
             Cause::Refused(refusal) => write!(f, "refused {}: {refusal}", refusal.number()),
+            Cause::Foreign(refusal) => {
+                let number = refusal.number();
+                write!(f, "refused {number}: {refusal} (this does not look like a plane file)")
+            }
             Cause::System(error) => write!(f, "{error}"),
             Cause::Words(words) | Cause::Usage(words) => f.write_str(words),
         }

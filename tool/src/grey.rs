@@ -1,6 +1,7 @@
 //! Grey picture files: their shape, their format, and their rows as bytes, which PNG and PGM share.
 
 use crate::failure::Failure;
+use crate::range::Range;
 use crate::{input, pgm_file, png_file};
 use clap::ValueEnum;
 use lapped::Size;
@@ -23,6 +24,15 @@ impl Depth {
             Depth::Eight => u8::MAX.into(),
             Depth::Sixteen => u16::MAX,
         }
+    }
+
+    /// From black to white: the samples that are written as they are.
+    pub fn range(self) -> Range {
+        Range { low: 0, high: self.white().into() }
+    }
+
+    pub fn bits(self) -> usize {
+        8 * self.bytes()
     }
 
     pub fn bytes(self) -> usize {

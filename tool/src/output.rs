@@ -2,16 +2,73 @@
 
 use crate::failure::Failure;
 use crate::temporary::Temporary;
-use std::fs::{self, OpenOptions};
+use rustix::termios::isatty;
+use std::fs::{self, File, Metadata, OpenOptions};
 use std::io::{self, BufWriter, Write};
+use std::os::unix::fs::{FileTypeExt, MetadataExt};
+use std::os::unix::io::AsFd;
 use std::path::Path;
+
+/// The place of an output: neither an input of the same command nor a terminal.
+pub struct Place<'a> {
+    pub path: &'a Path,
+}
+
+impl<'a> Place<'a> {
+    /// Says in words why a place is not written to. Nothing has been read yet.
+    pub fn new(path: &'a Path, inputs: &[&Path]) -> Result<Self, Failure> {
+        if is_terminal(path) {
+            let words = "binary data is not written to a terminal; name a file or use a pipe";
+            return Err(Failure::words(path, words));
+        }
+        match inputs.iter().find(|input| is_same_file(path, input)) {
+            Some(input) => {
+                let words = format!(
+                    "this is the same file as the input {}, which is not overwritten",
+                    input.display()
+                );
+                Err(Failure::words(path, words))
+            }
+            None => Ok(Place { path }),
+        }
+    }
+}
+
+fn is_terminal(path: &Path) -> bool {
+    if path == Path::new("-") {
+        return isatty(io::stdout());
+    }
+    // Only a device is opened to ask: a pipe would wait for its reader.
+    fs::metadata(path).map_or(false, |found| found.file_type().is_char_device())
+        && OpenOptions::new().write(true).open(path).map_or(false, isatty)
+}
+
+/// Whether two names lead to one file, through links of any kind. A device or a pipe can well be read
+/// and written at a time.
+fn is_same_file(output: &Path, input: &Path) -> bool {
+    let output = match output == Path::new("-") {
+        true => metadata_of(io::stdout()),
+        false => fs::metadata(output),
+    };
+    let input = match input == Path::new("-") {
+        true => metadata_of(io::stdin()),
+        false => fs::metadata(input),
+    };
+    let place = |found: &Metadata| (found.dev(), found.ino());
+    matches!((output, input), (Ok(one), Ok(other)) if one.is_file() && place(&one) == place(&other))
+}
+
+fn metadata_of(open: impl AsFd) -> io::Result<Metadata> {
+    File::from(open.as_fd().try_clone_to_owned()?).metadata()
+}
 
 /// Has `write` write a file. A file appears under its name only once all of it is on the disk;
 /// until then it is a temporary one beside it, which is removed if anything fails.
 pub fn write_whole(
-    path: &Path,
+    place: &Place,
     write: impl FnOnce(&mut dyn Write) -> io::Result<()>,
 ) -> Result<(), Failure> {
+    let path = place.path;
     let done = if path == Path::new("-") {
         write_all_to(io::stdout().lock(), write).map(|_| ())
     } else if fs::metadata(path).map_or(false, |found| !found.is_file()) {
@@ -99,10 +156,10 @@ pub fn report(text: &str) -> Result<(), Failure> {
     done.map_err(|error| Failure::system(Path::new("standard output"), error))
 }
 
-/// Writes the report of a command that wrote a file to `path`. Where that is standard output, the
-/// file's bytes are alone there and the report goes to standard error.
-pub fn report_beside(path: &Path, text: &str) -> Result<(), Failure> {
-    if path != Path::new("-") {
+/// Writes the report of a command that wrote a file. Where that went to standard output, the file's
+/// bytes are alone there and the report goes to standard error.
+pub fn report_beside(place: &Place, text: &str) -> Result<(), Failure> {
+    if place.path != Path::new("-") {
         return report(text);
     }
     eprint!("{text}");

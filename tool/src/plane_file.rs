@@ -1,15 +1,18 @@
 //! Plane files: read no further than their header tells, and written.
 
 use crate::failure::Failure;
+use crate::input;
+use crate::output::{self, Place};
 use crate::progress::Progress;
-use crate::{input, output};
 use lapped::{Header, Mode, PlaneFile, Planes, Refusal};
 use std::io::{self, Read};
+use std::ops::Range;
 use std::path::Path;
 
-/// The bytes of a header, and where in it the file's total stands.
+/// The bytes of a header, and where in it the offset of the DC plane and the file's total stand.
 const HEADER: usize = 32;
-const TOTAL: std::ops::Range<usize> = 24..28;
+const DC_OFFSET: Range<usize> = 12..16;
+const TOTAL: Range<usize> = 24..28;
 
 /// The planes of a file. The file's bytes are gone when this returns.
 pub fn read(path: &Path) -> Result<PlaneFile, Failure> {
@@ -18,7 +21,8 @@ pub fn read(path: &Path) -> Result<PlaneFile, Failure> {
 
 /// The mode and the size of a file, which must be whole.
 pub fn header(path: &Path) -> Result<Header, Failure> {
-    lapped::read_header(&bytes_of(path)?).map_err(|refusal| Failure::refused(path, refusal))
+    let bytes = bytes_of(path)?;
+    lapped::read_header(&bytes).map_err(|refusal| refused(path, refusal, &bytes))
 }
 
 fn bytes_of(path: &Path) -> Result<Vec<u8>, Failure> {
@@ -28,7 +32,17 @@ fn bytes_of(path: &Path) -> Result<Vec<u8>, Failure> {
 
 /// The planes of a file from its bytes.
 pub fn from_bytes(path: &Path, bytes: &[u8]) -> Result<PlaneFile, Failure> {
-    PlaneFile::from_bytes(bytes).map_err(|refusal| Failure::refused(path, refusal))
+    PlaneFile::from_bytes(bytes).map_err(|refusal| refused(path, refusal, bytes))
+}
+
+/// The library's refusal of a file, and a remark where it is no plane file at all: every one of these
+/// has the same offset of its DC plane.
+fn refused(path: &Path, refusal: Refusal, bytes: &[u8]) -> Failure {
+    let offset = (HEADER as u32).to_le_bytes();
+    match bytes.get(DC_OFFSET) == Some(&offset[..]) {
+        true => Failure::refused(path, refusal),
+        false => Failure::refused_as_foreign(path, refusal),
+    }
 }
 
 /// The bytes of a plane file, at most one more than its header tells: that is enough for the
@@ -50,11 +64,11 @@ pub fn bytes(file: &mut impl Read) -> io::Result<Vec<u8>> {
 }
 
 /// Writes a plane file. Its planes and its bytes are in memory, so the caller holds nothing more.
-pub fn write(path: &Path, file: &PlaneFile, progress: &Progress) -> Result<(), Failure> {
-    let bytes = file.to_bytes().map_err(|refusal| Failure::refused(path, refusal))?;
+pub fn write(place: &Place, file: &PlaneFile, progress: &Progress) -> Result<(), Failure> {
+    let bytes = file.to_bytes().map_err(|refusal| Failure::refused(place.path, refusal))?;
     let pieces = bytes.chunks(1_000_000);
     let bar = progress.bar(pieces.len(), "megabytes");
-    output::write_whole(path, |out| {
+    output::write_whole(place, |out| {
         for piece in pieces {
             out.write_all(piece)?;
             bar.one_more();
@@ -68,7 +82,7 @@ pub fn write(path: &Path, file: &PlaneFile, progress: &Progress) -> Result<(), F
 /// and its bytes: two copies at a time.
 pub fn convert(
     from: &Path,
-    to: &Path,
+    to: &Place,
     progress: &Progress,
     make: impl FnOnce(Mode, &Planes) -> Result<Planes, Refusal>,
 ) -> Result<Planes, Failure> {

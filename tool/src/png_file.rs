@@ -1,7 +1,7 @@
 //! PNG files: grey ones in and out, coloured ones out.
 
 use crate::grey::{unreadable, Depth, Picture, Shape};
-use png::{BitDepth, ColorType, Compression, Decoder, Encoder, FilterType};
+use png::{BitDepth, ColorType, Compression, Decoder, DecodingError, Encoder, FilterType};
 use std::io::{self, Read, Write};
 
 /// Writes a grey picture; `fill` gives the bytes of each row.
@@ -58,7 +58,7 @@ fn write(
 
 /// Reads a grey picture.
 pub fn read(input: impl Read) -> io::Result<Picture> {
-    let mut reader = Decoder::new(input).read_info()?;
+    let mut reader = Decoder::new(input).read_info().map_err(in_words)?;
     let info = reader.info();
     match info.color_type {
         ColorType::Grayscale if info.trns.is_none() => {}
@@ -77,6 +77,17 @@ pub fn read(input: impl Read) -> io::Result<Picture> {
     };
     let shape = Shape::told(info.width, info.height, depth)?;
     let mut bytes = vec![0; shape.height * shape.row_bytes()];
-    reader.next_frame(&mut bytes)?;
+    reader.next_frame(&mut bytes).map_err(in_words)?;
     Ok(Picture { shape, bytes })
+}
+
+/// The decoder's own words are for programmers.
+fn in_words(error: DecodingError) -> io::Error {
+    match error {
+        DecodingError::IoError(error) if error.kind() != io::ErrorKind::UnexpectedEof => error,
+        DecodingError::LimitsExceeded => {
+            unreadable("a PNG file that takes too much memory to read")
+        }
+        _ => unreadable("a PNG file that is cut or damaged"),
+    }
 }

@@ -42,10 +42,9 @@ impl FromStr for Wanted {
 impl Range {
     /// From the smallest sample to the largest. A flat picture is black (white if it is all of the
     /// largest number there is, which has none above it).
-    pub fn of(samples: &[i32]) -> Self {
-        let low = samples.iter().copied().min().unwrap_or(0).min(i32::MAX - 1);
-        let high = samples.iter().copied().max().unwrap_or(0).max(low + 1);
-        Range { low, high }
+    pub fn from_extremes((smallest, largest): (i32, i32)) -> Self {
+        let low = smallest.min(i32::MAX - 1);
+        Range { low, high: largest.max(low + 1) }
     }
 
     /// How far white is from black.
@@ -76,6 +75,13 @@ impl Range {
         }
         samples.iter().filter(|&&sample| !self.holds(sample)).count()
     }
+}
+
+/// The smallest and the largest of some numbers, of which there is at least one.
+pub fn extremes(numbers: &[i32]) -> (i32, i32) {
+    numbers.iter().fold((i32::MAX, i32::MIN), |(smallest, largest), &number| {
+        (smallest.min(number), largest.max(number))
+    })
 }
 
 impl fmt::Display for Range {

@@ -68,11 +68,11 @@ fn a_chain() {
     let grey = Grey::any(80, 16, 16);
     let picture = folder.write("in.png", &grey.to_file("png"));
     let line = "\"$lapped\" import \"$1\" -m 1 -o - \
-                | \"$lapped\" export - --range 0:65535 -f pgm -o - \
+                | \"$lapped\" export - -f pgm -o - \
                 | \"$lapped\" import - -m 2 -o - \
                 | \"$lapped\" quantise - -s 0 -o - 2>/dev/null \
                 | \"$lapped\" restore - -s 0 -o - 2>/dev/null \
-                | \"$lapped\" export - --range 0:65535 -o -";
+                | \"$lapped\" export - -o -";
     let ran = shell(line, &[&picture]);
     ran.assert_done("the chain");
     assert_eq!(Grey::from_file("png", &ran.out), grey);

@@ -170,15 +170,61 @@ fn links_and_permissions() {
     assert_eq!(fs::read_dir(folder.path("elsewhere")).unwrap().count(), 1);
 }
 
-/// The file that is read may be the one that is written.
+/// An input is not overwritten by the output, whatever the name under which it is given.
 #[test]
-fn in_place() {
-    let (folder, picture, _, _) = folder_with_files("in_place");
-    lapped(&["import", &picture, "-m", "2", "-o", &picture]).assert_done("import");
-    lapped(&["quantise", &picture, "-s", "1", "-o", &picture]).assert_done("quantise");
-    lapped(&["restore", &picture, "-s", "1", "-o", &picture]).assert_done("restore");
-    lapped(&["export", &picture, "--range", "0:65535", "-o", &picture]).assert_done("export");
-    assert_eq!(Grey::from_file("pgm", &folder.read("in.pgm")), Grey::any(64, 48, 16));
+fn the_output_is_an_input() {
+    let (folder, picture, one, other) = folder_with_files("same_file");
+    let before = FILES.map(|name| folder.read(name));
+    let (hard, soft) = (folder.path("hard.png"), folder.path("soft.png"));
+    for input in [&picture, &one, &other] {
+        fs::hard_link(input, &hard).unwrap();
+        symlink("hard.png", &soft).unwrap();
+        let around = input.replace("/same_file/", "/same_file/../same_file/");
+        for out in [input, &around, &hard, &soft] {
+            for arguments in writers(&picture, &one, &other, out) {
+                // Those that read it; and a heat picture's name ends in .png.
+                let named = arguments[0] != "diff" || out.ends_with(".png");
+                if !named || !arguments[1..3].contains(&input.as_str()) {
+                    continue;
+                }
+                let ran = lapped(&arguments);
+                let message = format!(
+                    "lapped: {out}: this is the same file as the input {input}, \
+                     which is not overwritten\n"
+                );
+                assert_eq!((ran.status, ran.text()), (1, ""), "{arguments:?}");
+                assert_eq!(ran.err, message, "{arguments:?}");
+                let names = ["hard.png", "in.pgm", "one", "other", "soft.png"];
+                assert_eq!(folder.names(), names, "{arguments:?}");
+                assert!(FILES.map(|name| folder.read(name)) == before, "{arguments:?}");
+            }
+        }
+        fs::remove_file(&hard).unwrap();
+        fs::remove_file(&soft).unwrap();
+    }
+}
+
+/// The same where the shell opened the file for standard input, for standard output, or for both.
+#[test]
+fn the_output_is_an_input_by_the_shell() {
+    let (folder, _, one, _) = folder_with_files("same_by_shell");
+    let before = folder.read("one");
+    for (line, names) in [
+        ("\"$lapped\" quantise - -s 3 -o \"$1\" <\"$1\"", (one.as_str(), "-")),
+        ("\"$lapped\" quantise \"$1\" -s 3 -o - >>\"$1\"", ("-", one.as_str())),
+        ("\"$lapped\" quantise - -s 3 -o - <\"$1\" >>\"$1\"", ("-", "-")),
+    ] {
+        let ran = shell(line, &[&one]);
+        let (out, input) = names;
+        let message = format!(
+            "lapped: {out}: this is the same file as the input {input}, which is not overwritten\n"
+        );
+        assert_eq!((ran.status, ran.err), (1, message), "{line}");
+        assert!(folder.read("one") == before, "{line}");
+    }
+    // A device may be both.
+    let ran = shell("\"$lapped\" quantise - -s 3 -o /dev/null </dev/null", &[]);
+    assert!(ran.err.contains("refused 9"), "{}", ran.err);
 }
 
 /// In the folder in which it runs, and beside a file that a killed run of the same process number

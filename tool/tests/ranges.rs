@@ -57,11 +57,53 @@ fn assert_shown(
 }
 
 #[test]
-fn without_a_range_8_bits_as_they_are() {
-    let folder = Folder::new("without_a_range");
-    let samples: Vec<i32> = (0..256).collect();
-    assert_shown(&folder, &samples, &[], 0, 255, 8);
-    assert_shown(&folder, &[-1, 0, 255, 256, i32::MIN, i32::MAX, 7], &[], 0, 255, 8);
+fn without_a_range_samples_are_written_as_they_are() {
+    let folder = Folder::new("as_they_are");
+    let all: Vec<i32> = (0..256).collect();
+    for (samples, options, bits) in [
+        (&all[..], &[][..], 8),
+        (&all, &["--bits", "8"], 8),
+        (&all, &["--bits", "16"], 16),
+        (&[255], &[], 8),
+        (&[0, 256], &[], 16),
+        (&[300], &[], 16),
+        (&[1, 65535], &[], 16),
+        (&[1, 65535], &["--bits", "16"], 16),
+    ] {
+        assert_shown(&folder, samples, options, 0, (1 << bits) - 1, bits);
+    }
+}
+
+/// Samples that the picture cannot hold are clipped only where a range is given.
+#[test]
+fn without_a_range_nothing_is_clipped() {
+    let folder = Folder::new("nothing_clipped");
+    for (samples, options, bits) in [
+        (&[-1, 0, 255][..], &[][..], 16),
+        (&[0, 65536], &[], 16),
+        (&[i32::MIN, i32::MAX], &[], 16),
+        (&[-1, 0, 255], &["--bits", "8"], 8),
+        (&[0, 256], &["--bits", "8"], 8),
+        (&[7, 65536], &["--bits", "16"], 16),
+    ] {
+        let (file, _) = write_samples(&folder, samples);
+        let ran = lapped(&[&["export", &file, "-o", &folder.path("no.png")], options].concat());
+        let (smallest, largest) = (samples.iter().min().unwrap(), samples.iter().max().unwrap());
+        let message = format!(
+            "lapped: {file}: samples from {smallest} to {largest}, and {bits} bits hold 0 to {}; \
+             --range LO:HI or --range auto says what is black and what is white\n",
+            (1 << bits) - 1
+        );
+        assert_eq!((ran.status, ran.text()), (1, ""), "{samples:?} {options:?}");
+        assert_eq!(ran.err, message, "{samples:?} {options:?}");
+        assert_eq!(folder.names(), ["planes"]);
+        let clipping = [&["--range", "0:255"], options].concat();
+        let bits = if options == ["--bits", "16"] { 16 } else { 8 };
+        assert_shown(&folder, samples, &clipping, 0, 255, bits);
+        for name in ["out.png", "out.pgm"] {
+            std::fs::remove_file(folder.path(name)).unwrap();
+        }
+    }
 }
 
 #[test]
@@ -98,64 +140,5 @@ fn range_of_the_samples_themselves() {
     // A flat picture is black.
     for flat in [0, 77, i32::MIN, i32::MAX - 1] {
         assert_shown(&folder, &[flat], &auto, flat, flat + 1, 8);
-    }
-}
-
-/// The view's numbers are larger than a picture's, and 8 bits are shown of them just as well.
-#[test]
-fn quarter_view() {
-    let folder = Folder::new("quarter_view");
-    let size = Size::new(3, 2);
-    let mut random = Random::new(8);
-    for mode in 0..=2 {
-        let planes = random_planes(&mut random, size, Values::Small);
-        let mut view = vec![0; 16 * 6];
-        reference::quarter_view(mode, size, &planes[0], &planes[1], &mut view).unwrap();
-        let file = folder.write("planes", &file_of_planes(mode, size, &planes));
-        let usual = [1020, 703, 703][mode as usize];
-        let (smallest, largest) = (*view.iter().min().unwrap(), *view.iter().max().unwrap());
-        let exact = format!("{smallest}:{}", smallest + 65535);
-        for (range, low, high, bits) in [
-            (None, 0, usual, 8),
-            (Some("auto"), smallest, largest, if largest - smallest <= usual { 8 } else { 16 }),
-            (Some(exact.as_str()), smallest, smallest + 65535, 16),
-        ] {
-            let out = folder.path("out.png");
-            let mut arguments = vec!["export", "--quarter", &file, "-o", &out];
-            arguments.extend(range.iter().flat_map(|range| ["--range", range]));
-            let ran = lapped(&arguments);
-            let clipped = view.iter().filter(|&&number| number < low || number > high).count();
-            assert_eq!(ran.status, 0);
-            assert_eq!(ran.err.is_empty(), clipped == 0, "{}", ran.err);
-            assert!(clipped == 0 || ran.err.contains(&format!(" {clipped} of 96 samples clipped")));
-            let white = f64::from((1 << bits) - 1);
-            let samples = view.iter().map(|&number| grey(number, low, high, white)).collect();
-            let expected = Grey { width: 12, height: 8, bits, samples };
-            assert_eq!(Grey::from_file("png", &folder.read("out.png")), expected, "{range:?}");
-        }
-    }
-}
-
-/// A flat picture's view is as bright as the picture, in every mode, but for a rim that is filtered
-/// less.
-#[test]
-fn quarter_view_is_as_bright() {
-    let folder = Folder::new("as_bright");
-    let (size, width, height) = (Size::new(2, 3), 8, 12);
-    for mode in 0..=2 {
-        for bright in [1, 100, 180, 255] {
-            let samples = vec![bright; 256 * 6];
-            let file = folder.write("planes", &file_of_samples(mode, size, &samples));
-            let ran = lapped(&["export", "--quarter", &file, "-o", &folder.path("out.png")]);
-            assert_eq!(ran.status, 0, "{}", ran.err);
-            let view = Grey::from_file("png", &folder.read("out.png"));
-            for row in 1..height - 1 {
-                let inner = &view.samples[row * width + 1..row * width + width - 1];
-                assert!(
-                    inner.iter().all(|grey| (bright - grey).abs() <= 1),
-                    "mode {mode}: {inner:?}"
-                );
-            }
-        }
     }
 }

@@ -22,14 +22,19 @@ fn commands<'a>(faulty: &'a str, sound: &'a str, out: &'a str) -> [Vec<&'a str>;
     ]
 }
 
-/// Every command refuses the file with this number and these words, from a file and from a pipe.
+/// Every command refuses the file with this number and these words, from a file and from a pipe. A
+/// remark follows where the word after mode and size is not 32, as it is in every plane file.
 fn assert_refused(folder: &Folder, bytes: &[u8], number: u32, words: &str) {
+    let remark = match bytes.get(12..16) {
+        Some([32, 0, 0, 0]) => "",
+        _ => " (this does not look like a plane file)",
+    };
     let faulty = folder.write("faulty", bytes);
     let (sound, out) = (folder.write("sound", &some_file(1)), folder.path("out.png"));
     for name in [faulty.as_str(), "-"] {
         for arguments in commands(name, &sound, &out) {
             let ran = lapped_reading(&arguments, bytes);
-            let message = format!("lapped: {name}: refused {number}: {words}\n");
+            let message = format!("lapped: {name}: refused {number}: {words}{remark}\n");
             assert_eq!(ran.err, message, "{arguments:?}");
             assert_eq!((ran.status, ran.text()), (1, ""), "{arguments:?}");
         }
@@ -64,6 +69,24 @@ fn headers() {
     ] {
         let mut bytes = some_file(2);
         set_word(&mut bytes, index, word);
+        assert_refused(&folder, &bytes, number, words);
+    }
+}
+
+/// Files of other kinds, which are told to be that.
+#[test]
+fn no_plane_files() {
+    let folder = Folder::new("no_plane_files");
+    let grey = Grey::any(16, 16, 8);
+    let text = b"A text, as it stands in many a file of a folder with pictures.".to_vec();
+    for (bytes, (number, words)) in [
+        (grey.to_file("png"), MODE),
+        (grey.to_file("pgm"), MODE),
+        (text, MODE),
+        (vec![0; 100], WIDTH),
+        (Vec::new(), SHORT),
+    ] {
+        assert_ne!(bytes.get(12..16), Some(&[32, 0, 0, 0][..]), "the remark is wanted");
         assert_refused(&folder, &bytes, number, words);
     }
 }
@@ -228,13 +251,14 @@ fn pgm_files_with_faults() {
 fn png_files_with_faults() {
     let folder = Folder::new("png_faults");
     let sound = Grey::any(20, 10, 8).to_file("png");
+    let words = ": a PNG file that is cut or damaged\n";
     for length in (2..sound.len() - 12).step_by(7).chain([sound.len() - 13]) {
-        assert_unread(&folder, &sound[..length], "");
+        assert_unread(&folder, &sound[..length], words);
     }
-    for place in (12..sound.len() - 12).step_by(11) {
+    for place in (2..sound.len() - 12).step_by(5) {
         let mut changed = sound.clone();
         changed[place] ^= 0x10;
-        assert_unread(&folder, &changed, "");
+        assert_unread(&folder, &changed, words);
     }
 }
 

@@ -45,7 +45,7 @@ fn note(path: &str, grey: &Grey, filled: &Grey) -> String {
     )
 }
 
-fn there_and_back(format: &str, bits: u32, range: &str) {
+fn there_and_back(format: &str, bits: u32) {
     let folder = Folder::new(&format!("there_and_back_{format}_{bits}"));
     for (width, height) in SIDES {
         let grey = Grey::any(width, height, bits);
@@ -59,31 +59,37 @@ fn there_and_back(format: &str, bits: u32, range: &str) {
             let plane_file = file_of_samples(mode, size, &expected.samples);
             assert!(folder.read("planes") == plane_file, "{what}: the plane file");
 
-            lapped(&["export", &planes, "-o", &out, "--range", range]).assert_done(&what);
-            let back = Grey::from_file(format, &folder.read(&format!("out.{format}")));
-            assert_eq!(back, expected, "{what}");
+            // As many bits as the samples need, or as are asked for; the numbers are the same.
+            let needed = if expected.samples.iter().any(|&sample| sample > 255) { 16 } else { 8 };
+            let asked = bits.to_string();
+            for (options, bits) in [(&[][..], needed), (&["--bits", asked.as_str()], bits)] {
+                let arguments = [&["export", &planes, "-o", &out], options].concat();
+                lapped(&arguments).assert_done(&what);
+                let back = Grey::from_file(format, &folder.read(&format!("out.{format}")));
+                assert_eq!(back, Grey { bits, ..expected.clone() }, "{what} {options:?}");
+            }
         }
     }
 }
 
 #[test]
 fn png_of_8_bits() {
-    there_and_back("png", 8, "0:255");
+    there_and_back("png", 8);
 }
 
 #[test]
 fn png_of_16_bits() {
-    there_and_back("png", 16, "0:65535");
+    there_and_back("png", 16);
 }
 
 #[test]
 fn pgm_of_8_bits() {
-    there_and_back("pgm", 8, "0:255");
+    there_and_back("pgm", 8);
 }
 
 #[test]
 fn pgm_of_16_bits() {
-    there_and_back("pgm", 16, "0:65535");
+    there_and_back("pgm", 16);
 }
 
 /// The longest sides pass; that one more does not is among the refusals.

@@ -3,6 +3,7 @@
 mod common;
 use common::pictures::Grey;
 use common::*;
+use reference::random::{Random, Values};
 use reference::Size;
 use std::fs;
 
@@ -73,10 +74,10 @@ fn examples(help: &str) -> Vec<String> {
 #[test]
 fn examples_of_the_help_work() {
     let folder = Folder::new("examples");
-    fs::create_dir(folder.path("examples")).unwrap();
     fs::create_dir(folder.path("archive")).unwrap();
-    let disc = concat!(env!("CARGO_MANIFEST_DIR"), "/../examples/disc.planes");
-    fs::copy(disc, folder.path("examples/disc.planes")).unwrap();
+    let grey = Grey::any(48, 32, 8);
+    let planes = file_of_samples(2, Size::new(3, 2), &grey.samples);
+    folder.write("ring.planes", &planes);
     for (name, seed) in [
         ("archive/1.planes", 1),
         ("archive/2.planes", 2),
@@ -111,15 +112,11 @@ fn examples_of_the_help_work() {
         // The two files of the last example differ.
         assert_eq!((ran.status, ran.err.as_str()), (i32::from(command == "diff"), ""), "{example}");
     }
-    assert_eq!(
-        folder.read("disc.planes"),
-        fs::read(disc).unwrap(),
-        "out as a picture and in again"
-    );
-    assert_eq!(Grey::from_file("png", &folder.read("disc.png")).height, 32);
+    assert!(folder.read("ring.planes") == planes, "out as a picture and in again");
+    assert_eq!(Grey::from_file("png", &folder.read("ring.png")), grey);
     assert!(folder.names().contains(&"heat.png".to_string()));
-    for name in ["disc.levels", "restored.planes"] {
-        assert_eq!(folder.read(name).len(), fs::read(disc).unwrap().len(), "{name}");
+    for name in ["ring.levels", "restored.planes"] {
+        assert_eq!(folder.read(name).len(), planes.len(), "{name}");
     }
 }
 
@@ -140,7 +137,7 @@ fn progress() {
     let picture = folder.write("in.pgm", &Grey::any(960, 960, 8).to_file("pgm"));
     let (out, planes) = (folder.path("out.png"), folder.path("out.planes"));
     for (command, sign) in [
-        (format!("find-step {file} -t 5"), "finding a step 0s"),
+        (format!("find-step {file} -t 5"), "of at most 254 tries, up to about 0:0"),
         (format!("find-step {file} -t 5 -o {planes}"), "megabytes"),
         (format!("export {file} -o {out}"), "rows"),
         (format!("import {picture} -m 2 -o {planes}"), "megabytes"),
@@ -151,14 +148,87 @@ fn progress() {
         (format!("info {file} {file}"), "files"),
     ] {
         let shown = on_a_terminal(&command);
-        let counted = sign.starts_with("finding") || shown.contains(" of ");
-        assert!(shown.contains(sign) && counted, "{command}: {shown:?}");
+        assert!(shown.contains(sign) && shown.contains(" of "), "{command}: {shown:?}");
         for quiet in [format!("--quiet {command}"), format!("{command} -q")] {
             let shown = on_a_terminal(&quiet);
             assert!(!shown.contains(sign), "{quiet}: {shown:?}");
         }
         let arguments: Vec<&str> = command.split(' ').collect();
         lapped(&arguments).assert_done(&command);
+    }
+}
+
+/// A search in vain tries every index. What is shown of it rises to at most their number while the time
+/// to go falls.
+#[test]
+fn progress_of_a_search() {
+    let folder = Folder::new("progress_of_a_search");
+    let size = Size::new(100, 100);
+    let planes = random_planes(&mut Random::new(51), size, Values::Small);
+    let file = folder.write("planes", &file_of_planes(2, size, &planes));
+    let shown = on_a_terminal(&format!("find-step {file} -t 0"));
+    assert!(shown.contains("no index from 2 to 255 keeps it"), "{shown:?}");
+    let number = |text: &str| -> f64 { text.parse().unwrap_or_else(|_| panic!("{text:?}")) };
+    let lines: Vec<(f64, f64)> = shown
+        .split("finding a step: about ")
+        .skip(1)
+        .map(|line| {
+            let (tries, rest) = line.split_once(" of at most 254 tries, up to about ").expect(line);
+            let (minutes, rest) = rest.split_once(':').expect(line);
+            let seconds = rest.split_once(" to go").expect(line).0;
+            (number(tries), 60.0 * number(minutes) + number(seconds))
+        })
+        .collect();
+    let (first, last) = (lines[0], lines[lines.len() - 1]);
+    assert!(first.0 < 20.0 && last.0 > 40.0, "{lines:?}");
+    assert!(first.1 > last.1, "{lines:?}");
+    assert!(lines.windows(2).all(|pair| pair[0].0 <= pair[1].0 && pair[0].1 >= pair[1].1));
+    assert!(lines.iter().all(|line| line.0 <= 254.0), "{lines:?}");
+    // What is done and what is to go are of one whole: 254 tries.
+    let one_try = first.1 / (254.0 - first.0);
+    let told = lines.iter().all(|(tries, left)| ((254.0 - tries) * one_try - left).abs() <= 2.0);
+    assert!(told, "{lines:?}");
+}
+
+/// Where a product of level and step leaves the range, no one try can be timed, and the time so far is
+/// shown.
+#[test]
+fn progress_of_a_wild_search() {
+    let folder = Folder::new("progress_of_a_wild_search");
+    let size = Size::new(4, 4);
+    let mut planes = random_planes(&mut Random::new(52), size, Values::Small);
+    planes[2][7] = i32::MAX;
+    let file = folder.write("planes", &file_of_planes(1, size, &planes));
+    let shown = on_a_terminal(&format!("find-step {file} -t 5"));
+    assert!(shown.contains("finding a step 0s") && !shown.contains(" tries"), "{shown:?}");
+}
+
+/// A picture or a plane file is not written to a terminal, be it standard output or a device.
+#[test]
+fn no_bytes_to_a_terminal() {
+    let folder = Folder::new("terminal");
+    let file = folder.write("planes", &some_file(53));
+    let picture = folder.write("in.pgm", &Grey::any(16, 16, 8).to_file("pgm"));
+    for command in [
+        format!("import {picture} -m 2"),
+        format!("export {file} --range auto -f pgm"),
+        format!("find-step {file} -t 5"),
+        format!("quantise {file} -s 3"),
+        format!("restore {file} -s 3"),
+        format!("diff {file} {file}"),
+    ] {
+        for out in ["-", "/dev/tty"] {
+            if command.starts_with("diff") && out != "-" {
+                continue; // The name of its picture ends in .png.
+            }
+            let line = "TERM=xterm script -qec \"$lapped $1\" /dev/null";
+            let ran = shell(line, &[&format!("{command} -o {out}")]);
+            let message = format!(
+                "lapped: {out}: binary data is not written to a terminal; \
+                 name a file or use a pipe\r\n"
+            );
+            assert_eq!((ran.status, ran.text()), (1, message.as_str()), "{command} -o {out}");
+        }
     }
 }
 

@@ -2,9 +2,10 @@
 
 use crate::failure::{Failure, Outcome};
 use crate::heat::Heat;
+use crate::output::{self, Place};
 use crate::progress::Progress;
 use crate::windows::Windows;
-use crate::{input, output, plane_file};
+use crate::{input, plane_file};
 use lapped::{PlaneFile, Size};
 use std::path::{Path, PathBuf};
 
@@ -32,9 +33,13 @@ pub struct Args {
 
 pub fn run(args: &Args, progress: &Progress) -> Result<Outcome, Failure> {
     input::standard_input_once([&args.one, &args.other])?;
-    if let Some(path) = &args.output {
-        check_name(path)?;
-    }
+    let place = match &args.output {
+        Some(path) => {
+            check_name(path)?;
+            Some(Place::new(path, &[&args.one, &args.other])?)
+        }
+        None => None,
+    };
     let (one, other) = (plane_file::read(&args.one)?, plane_file::read(&args.other)?);
     check_alike(&args.other, &one, &other)?;
     let size = one.planes.size;
@@ -44,7 +49,7 @@ pub fn run(args: &Args, progress: &Progress) -> Result<Outcome, Failure> {
     let other = samples(&args.other, other)?;
 
     let found = Found::between(size, &one, &other, &windows);
-    if let Some(path) = &args.output {
+    if let Some(place) = &place {
         let (width, height) = (size.samples_across(), size.samples_down());
         let heat = Heat {
             width,
@@ -55,11 +60,11 @@ pub fn run(args: &Args, progress: &Progress) -> Result<Outcome, Failure> {
             windows: &windows,
         };
         let bar = progress.bar(height, "rows");
-        output::write_whole(path, |out| heat.write(out, || bar.one_more()))?;
+        output::write_whole(place, |out| heat.write(out, || bar.one_more()))?;
     }
     let report = found.report(size, &windows);
-    match &args.output {
-        Some(path) => output::report_beside(path, &report)?,
+    match &place {
+        Some(place) => output::report_beside(place, &report)?,
         None => output::report(&report)?,
     }
     Ok(if found.nothing(&windows) { Outcome::Done } else { Outcome::RefusedOrDifferent })

@@ -2,12 +2,13 @@
 
 use crate::failure::{tell, Failure, Outcome};
 use crate::grey::Picture;
+use crate::output::Place;
 use crate::progress::Progress;
 use crate::{plane_file, shape, wraps};
 use lapped::{Mode, PlaneFile, Planes, Refusal, Size};
 use std::path::{Path, PathBuf};
 
-pub const EXAMPLE: &str = "lapped import disc.png -m 2 -o disc.planes";
+pub const EXAMPLE: &str = "lapped import ring.png -m 2 -o ring.planes";
 
 /// Write a grey PNG or PGM picture, 8 or 16 bits, as a plane file
 ///
@@ -26,6 +27,7 @@ pub struct Args {
 }
 
 pub fn run(args: &Args, progress: &Progress) -> Result<Outcome, Failure> {
+    let place = Place::new(&args.output, &[&args.input])?;
     let refused = |refusal| Failure::refused(&args.input, refusal);
     let picture =
         Picture::read(&args.input).map_err(|error| Failure::system(&args.input, error))?;
@@ -37,7 +39,7 @@ pub fn run(args: &Args, progress: &Progress) -> Result<Outcome, Failure> {
     let (planes, wrapped) = Planes::from_samples(args.mode, size, &samples).map_err(refused)?;
     drop(samples);
     wraps::tell_of(&args.input, wrapped);
-    plane_file::write(&args.output, &PlaneFile { mode: args.mode, planes }, progress)?;
+    plane_file::write(&place, &PlaneFile { mode: args.mode, planes }, progress)?;
     Ok(Outcome::Done)
 }
 

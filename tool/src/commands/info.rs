@@ -2,11 +2,12 @@
 
 use crate::failure::{Failure, Outcome};
 use crate::progress::Progress;
+use crate::range::extremes;
 use crate::{input, output, plane_file, shape, wraps};
 use lapped::{PlaneFile, Wrapped};
 use std::path::{Path, PathBuf};
 
-pub const EXAMPLE: &str = "lapped info examples/disc.planes";
+pub const EXAMPLE: &str = "lapped info ring.planes";
 
 /// Say the mode, the size and the extreme coefficients of plane files, and whether a sum wraps
 ///
@@ -60,11 +61,4 @@ fn report(path: &Path, file: &PlaneFile, wrapped: Wrapped) -> String {
         text += &format!("  {band:<9}  {smallest} to {largest}\n");
     }
     text + &wraps::line(wrapped)
-}
-
-/// The smallest and the largest number of a plane; a plane is never empty.
-fn extremes(plane: &[i32]) -> (i32, i32) {
-    plane.iter().fold((i32::MAX, i32::MIN), |(smallest, largest), &number| {
-        (smallest.min(number), largest.max(number))
-    })
 }

@@ -1,13 +1,14 @@
 //! `lapped quantise`: a plane file's coefficients as levels, each band by its own step.
 
 use crate::failure::{Failure, Outcome};
+use crate::output::{self, Place};
 use crate::progress::Progress;
-use crate::{output, plane_file, steps};
+use crate::{plane_file, steps};
 use lapped::{Planes, Steps};
 use std::fmt;
 use std::path::PathBuf;
 
-pub const EXAMPLE: &str = "lapped quantise examples/disc.planes -s 10,20,40 -o disc.levels";
+pub const EXAMPLE: &str = "lapped quantise ring.planes -s 10,20,40 -o ring.levels";
 
 /// Write the coefficients of a plane file as levels, and say how many are zero
 ///
@@ -27,11 +28,12 @@ pub struct Args {
 }
 
 pub fn run(args: &Args, progress: &Progress) -> Result<Outcome, Failure> {
+    let place = Place::new(&args.output, &[&args.file])?;
     let steps = args.asked.steps;
-    let levels = plane_file::convert(&args.file, &args.output, progress, |mode, planes| {
+    let levels = plane_file::convert(&args.file, &place, progress, |mode, planes| {
         planes.quantised(mode, steps)
     })?;
-    output::report_beside(&args.output, &report(steps, &levels))?;
+    output::report_beside(&place, &report(steps, &levels))?;
     Ok(Outcome::Done)
 }
 

@@ -1,11 +1,12 @@
 //! `lapped restore`: a plane file's levels as coefficients again, each band by its own step.
 
 use crate::failure::{Failure, Outcome};
+use crate::output::{self, Place};
 use crate::progress::Progress;
-use crate::{output, plane_file, steps};
+use crate::{plane_file, steps};
 use std::path::PathBuf;
 
-pub const EXAMPLE: &str = "lapped restore disc.levels -s 10,20,40 -o restored.planes";
+pub const EXAMPLE: &str = "lapped restore ring.levels -s 10,20,40 -o restored.planes";
 
 /// Write the levels of a plane file as coefficients again
 ///
@@ -25,11 +26,10 @@ pub struct Args {
 }
 
 pub fn run(args: &Args, progress: &Progress) -> Result<Outcome, Failure> {
+    let place = Place::new(&args.output, &[&args.file])?;
     let steps = args.asked.steps;
-    plane_file::convert(&args.file, &args.output, progress, |mode, levels| {
-        levels.restored(mode, steps)
-    })?;
+    plane_file::convert(&args.file, &place, progress, |mode, levels| levels.restored(mode, steps))?;
     let report = steps::lines(steps).map(|line| line + "\n").concat();
-    output::report_beside(&args.output, &report)?;
+    output::report_beside(&place, &report)?;
     Ok(Outcome::Done)
 }
