@@ -43,7 +43,7 @@ static uint32_t show(const uint8_t *bytes, size_t len) {
         const lapped_answer answer =
             lapped_quarter(header.mode, header.size, dc, dc_len, low, low_len, view, view_len);
         number = answer.number;
-        if (answer.wrapped) fprintf(stderr, "a sum wrapped: the file has wild numbers\n");
+        if (answer.wrapped) fprintf(stderr, "a sum wrapped: the file has extreme values\n");
     }
     if (number == LAPPED_DONE) print_rows(header.size, view);
     free(dc);

@@ -35,7 +35,7 @@ fn exports_are_those_of_the_header() {
     assert_eq!(exported, declared());
 }
 
-/// Calls may run side by side because there is nothing that they share: only code (T, t), constants
+/// Calls may run concurrently because there is nothing that they share: only code (T, t), constants
 /// (R, r) and functions of the C library on memory (U), no data that is written.
 #[test]
 fn no_call_keeps_anything() {

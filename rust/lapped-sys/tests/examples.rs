@@ -36,21 +36,21 @@ fn quarter_text(bytes: &[u8]) -> String {
 #[test]
 fn quarter() {
     let program = C99.build(&root().join("examples/quarter.c"), "quarter");
-    let sound = root().join("examples/disc.planes");
+    let sound = root().join("examples/ring.planes");
     let ran = output(Command::new(&program).arg(&sound));
     let expected = quarter_text(&std::fs::read(sound).unwrap());
     assert_eq!(String::from_utf8_lossy(&ran.stdout), expected);
     assert!(ran.status.success() && ran.stderr.is_empty());
 
-    let wild = program_path("wild.planes");
+    let extreme = program_path("extreme.planes");
     let mut bytes = vec![0; 32 + 1024];
     let dc = [i32::MAX]; // in mode 0 it makes a sum wrap by itself
     plane_file::save(0, Size::new(1, 1), &dc, &[0; 15], &[0; 240], &mut bytes).unwrap();
-    std::fs::write(&wild, &bytes).unwrap();
-    let ran = output(Command::new(&program).arg(wild));
+    std::fs::write(&extreme, &bytes).unwrap();
+    let ran = output(Command::new(&program).arg(extreme));
     assert_eq!(String::from_utf8_lossy(&ran.stdout), quarter_text(&bytes));
     let told = String::from_utf8_lossy(&ran.stderr);
-    assert_eq!(told, "a sum wrapped: the file has wild numbers\n");
+    assert_eq!(told, "a sum wrapped: the file has extreme values\n");
 
     let short = program_path("short.planes");
     std::fs::write(&short, [0; 31]).unwrap();

@@ -12,8 +12,8 @@
 //! The calls are functions of `liblapped.a`, which is proved to meet its definitions for every input.
 //! This crate adds the types: a call that gets a [`Mode`] and a [`Size`] can only be refused for the
 //! length of a slice, for the bytes of a file or for a level too large to be restored, and a call that
-//! refuses has changed nothing that was lent to it. No call keeps anything; calls on different memory
-//! may run side by side.
+//! refuses has changed nothing that was lent to it. The library is stateless; calls on different memory
+//! may run concurrently.
 //!
 //! ```
 //! use lapped::{Mode, Planes, Size, Wrapped};
@@ -24,7 +24,7 @@
 //! let (planes, _) = Planes::from_samples(Mode::BothLevels, size, &samples)?;
 //! let (back, wrapped) = planes.to_samples(Mode::BothLevels)?;
 //! assert_eq!(back, samples);
-//! assert_eq!(wrapped, Wrapped::No); // these are no wild numbers
+//! assert_eq!(wrapped, Wrapped::No); // no extreme values here
 //! # Ok::<(), lapped::Refusal>(())
 //! ```
 //!

@@ -12,10 +12,10 @@ use lapped_sys::lapped_header;
 /// ```
 /// use lapped::{Mode, PlaneFile, Planes, Size};
 ///
-/// let (planes, _) = Planes::from_samples(Mode::BothLevels, Size::new(1, 1)?, &[4; 256])?;
+/// let (planes, _) = Planes::from_samples(Mode::BothLevels, Size::new(2, 2)?, &[4; 1024])?;
 /// let file = PlaneFile { mode: Mode::BothLevels, planes };
 /// let bytes = file.to_bytes()?;
-/// assert_eq!(bytes.len(), 32 + 1024);
+/// assert_eq!(bytes.len(), 32 + 4 * 1024);
 /// assert_eq!(PlaneFile::from_bytes(&bytes)?, file);
 /// # Ok::<(), lapped::Refusal>(())
 /// ```
@@ -122,7 +122,7 @@ impl Header {
 /// ```
 /// use lapped::{read_header, save, Mode, Planes, Refusal, Size};
 ///
-/// let size = Size::new(2, 1)?;
+/// let size = Size::new(3, 2)?;
 /// let mut bytes = vec![0; size.file_bytes()];
 /// save(Mode::BothLevels, size, Planes::zeroed(size).as_ref(), &mut bytes)?;
 /// let header = read_header(&bytes)?;
@@ -172,10 +172,10 @@ pub fn load(bytes: &[u8], planes: PlanesMut) -> Result<Header, Refusal> {
 /// ```
 /// use lapped::{save, Mode, Planes, Size};
 ///
-/// let size = Size::new(1, 1)?;
+/// let size = Size::new(3, 2)?;
 /// let mut bytes = vec![0; size.file_bytes()];
 /// save(Mode::BothLevels, size, Planes::zeroed(size).as_ref(), &mut bytes)?;
-/// assert_eq!(bytes[..12], [2, 0, 0, 0, 1, 0, 0, 0, 1, 0, 0, 0]); // mode, width, height
+/// assert_eq!(bytes[..12], [2, 0, 0, 0, 3, 0, 0, 0, 2, 0, 0, 0]); // mode, width, height
 /// # Ok::<(), lapped::Refusal>(())
 /// ```
 ///

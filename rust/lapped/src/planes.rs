@@ -106,7 +106,7 @@ impl Planes {
     }
 
     /// The picture at a quarter of its width and height, in raster order, and whether a sum wrapped in
-    /// the level that makes it.
+    /// the level that makes it. [`quarter_view`] says how large its numbers are.
     ///
     /// ```
     /// use lapped::{Mode, Planes, Size, Wrapped};

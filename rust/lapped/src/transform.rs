@@ -67,8 +67,12 @@ pub fn forward(
 
 /// The picture at a quarter of its width and height, from the DC and low-pass planes alone.
 ///
-/// The high-pass plane is not looked at, and may be empty. The view is made by the first of the
+/// The high-pass plane is not read, and may be empty. The view is made by the first of the
 /// transform's two levels, and of that one it tells whether a sum wrapped.
+///
+/// Its numbers are larger than the samples: for a flat picture 4 times in [`Mode::Unfiltered`], and in
+/// the other modes, where the level of the samples is filtered, 2821/1024 = 2.755 times, with 10
+/// percent more along the edges and 15 percent more at the corners, where less is filtered.
 ///
 /// ```
 /// use lapped::{quarter_view, Mode, PlanesRef, Size};

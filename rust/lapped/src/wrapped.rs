@@ -8,7 +8,7 @@ use std::fmt;
 ///
 /// Every sum, difference, negation and multiple of 3 in the lines of the transform's operators is
 /// reduced to 32 bits. A sum wrapped if and only if one of these reductions changed a number, each step
-/// taken on the numbers that the steps before it left. It is a sign of wild numbers and no loss:
+/// taken on the numbers that the steps before it left. It is a sign of extreme values and no loss:
 /// [`forward`](crate::forward) and [`inverse`](crate::inverse) undo each other all the same, and of one
 /// picture they tell the same.
 ///

@@ -2,7 +2,7 @@
 //! that no other does, and that the reference's numbers of that index are left.
 
 mod common;
-use common::refusals::Operation;
+use common::refusals::{Operation, Refusing};
 use common::*;
 use lapped::{Found, Mode, Refusal, Size};
 use reference::find_step::{self, largest_difference, passes, Restored};

@@ -1,7 +1,8 @@
 //! The forecast against the reference, which counts place by place.
 
 mod common;
-use common::refusals::refused_arguments;
+use common::faults::{try_sets_of_faults, Refused};
+use common::refusals::Arguments;
 use common::*;
 use lapped::{Mode, Size, Work};
 use lapped_sys::lapped_work;
@@ -63,17 +64,19 @@ fn bytes_are_those_of_the_lengths() {
 /// Refused, every figure is zero.
 #[test]
 fn every_set_of_faults() {
-    for (arguments, expected, what) in refused_arguments(&[1, 2, 3], &mut Random::new(91)) {
-        let refused = lapped_work {
-            number: expected,
+    let (checks, mut random) = (Arguments::checks(&[1, 2, 3]), Random::new(91));
+    try_sets_of_faults(&checks, Arguments::sound, &mut random, |case, _| {
+        let Refused { arguments, number, what } = case;
+        let expected = lapped_work {
+            number,
             cores: 0,
             square_filters: 0,
             four_filters: 0,
             plane_bytes: 0,
             sample_bytes: 0,
         };
-        assert_eq!(raw::forecast(arguments.mode, arguments.size), refused, "{what}");
+        assert_eq!(raw::forecast(arguments.mode, arguments.size), expected, "{what}");
         let answer = reference::forecast::forecast(arguments.mode, arguments.reference_size());
-        assert_eq!(answer, Err(expected), "the reference: {what}");
-    }
+        assert_eq!(answer, Err(number), "the reference: {what}");
+    });
 }

@@ -1,7 +1,7 @@
 //! The forward call against the reference, and round trips both ways.
 
 mod common;
-use common::refusals::{number_of, Operation};
+use common::refusals::{number_of, Operation, Refusing};
 use common::*;
 use lapped::{Mode, Size, Wrapped};
 use reference::random::{Random, Values};

@@ -1,7 +1,7 @@
 //! The inverse call against the reference and the values of 01.
 
 mod common;
-use common::refusals::{number_of, Arguments, Operation};
+use common::refusals::{number_of, Arguments, Operation, Refusing};
 use common::*;
 use lapped::{Mode, Size, Wrapped};
 use reference::random::{Random, Values};
@@ -117,5 +117,5 @@ fn limits_with_matching_lengths() {
     let mut random = Random::new(7);
     INVERSE.assert_refuses_outside_the_limits(&mut random);
     let arguments = Arguments::fitting(2, 526, 414);
-    INVERSE.assert_refuses(arguments, 2, "one beyond the largest picture", &mut random);
+    INVERSE.assert_refuses(&arguments, 2, "one beyond the largest picture", &mut random);
 }

@@ -1,7 +1,7 @@
 //! Steps, quantising and restoring against the reference and the rules of 02 a).
 
 mod common;
-use common::refusals::{Operation, BAD_INDICES};
+use common::refusals::{Operation, Refusing, BAD_INDICES};
 use common::*;
 use lapped::{Mode, PlanesMut, PlanesRef, Refusal, Size, Steps};
 use reference::random::{Random, Values};

@@ -15,8 +15,10 @@ fn random_owned(random: &mut Random, width: u32, height: u32) -> Planes {
 #[test]
 fn results_are_those_of_the_reference() {
     let mut random = Random::new(91);
-    for (width, height) in [(1, 1), (3, 2), (1, 7)] {
-        for mode in Mode::ALL {
+    for (width, height, modes) in
+        [(1, 1, &Mode::ALL[..2]), (1, 7, &Mode::ALL[..2]), (3, 2, &Mode::ALL[..])]
+    {
+        for &mode in modes {
             let planes = random_owned(&mut random, width, height);
             let Planes { size, dc, low, high } = &planes;
             let what = format!("{mode:?}, {size:?}");

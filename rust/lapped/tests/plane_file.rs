@@ -1,26 +1,28 @@
 //! Header, load and save against the reference and the layout of 01.
 
 mod common;
-use common::refusals::{bad_sides, faults, Arguments, Operation, BAD_MODES};
+use common::faults::try_sets_of_faults;
+use common::file::{damaged, layout, set_word, word, Loading};
+use common::refusals::{Arguments, Operation, Refusing};
 use common::*;
 use lapped::{Header, Mode, PlaneFile, Planes, PlanesMut, Refusal};
 use lapped_sys::{lapped_header, lapped_size};
 use reference::random::{Random, Values};
 
-const SOUND_SHAPES: [(u32, u32); 8] =
-    [(1, 1), (1, 2), (2, 1), (2, 3), (7, 1), (1, 413), (525, 1), (11, 13)];
-
-/// The layout of 01, written out byte by byte.
-fn file(mode: u32, size: lapped_size, planes: &[Vec<i32>; 3]) -> Vec<u8> {
-    let n = size.width * size.height;
-    let words = [mode, size.width, size.height, 32, 32 + 4 * n, 32 + 64 * n, 32 + 1024 * n, 0];
-    let numbers = planes.iter().flatten().map(|&number| number as u32);
-    words.into_iter().chain(numbers).flat_map(u32::to_le_bytes).collect()
-}
-
-fn word(bytes: &[u8], index: usize) -> u32 {
-    u32::from_le_bytes(bytes[4 * index..4 * index + 4].try_into().unwrap())
-}
+/// Shapes with the modes in which files of them are tried: one macroblock wide or high in 0 and 1 alone.
+const SOUND_SHAPES: [(u32, u32, u32); 11] = [
+    (1, 1, 1),
+    (1, 2, 1),
+    (2, 1, 1),
+    (7, 1, 1),
+    (1, 413, 1),
+    (525, 1, 1),
+    (2, 2, 2),
+    (2, 3, 2),
+    (11, 13, 2),
+    (2, 413, 2),
+    (525, 2, 2),
+];
 
 fn refused(number: u32) -> lapped_header {
     lapped_header { number, mode: 0, size: raw_size(0, 0) }
@@ -91,12 +93,12 @@ fn save(mode: u32, size: lapped_size, planes: &[Vec<i32>; 3], random: &mut Rando
 #[test]
 fn random_files() {
     let mut random = Random::new(41);
-    for (width, height) in SOUND_SHAPES {
-        for mode in 0..=2 {
+    for (width, height, most) in SOUND_SHAPES {
+        for mode in 0..=most {
             for values in Values::ALL {
                 let shape = raw_size(width, height);
                 let planes = random_planes(&mut random, (width * height) as usize, values);
-                let bytes = file(mode, shape, &planes);
+                let bytes = layout(mode, shape, &planes);
                 let header = lapped_header { number: 0, mode, size: shape };
                 assert_file_sound(&bytes, header, &planes, &mut random);
                 let saved = save(mode, shape, &planes, &mut random);
@@ -119,7 +121,7 @@ fn safe_calls_give_what_the_c_calls_give() {
     let mut random = Random::new(42);
     let planes = random_planes(&mut random, 6, Values::Wild);
     let shape = size(2, 3);
-    let mut bytes = file(1, raw_size(2, 3), &planes);
+    let mut bytes = layout(1, raw_size(2, 3), &planes);
     let header = Header { mode: Mode::SampleLevel, size: shape };
     assert_eq!(lapped::read_header(&bytes), Ok(header));
     let mut loaded = Planes::zeroed(shape);
@@ -145,7 +147,7 @@ fn largest_file() {
     let mut random = Random::new(43);
     let shape = raw_size(525, 413);
     let planes = random_planes(&mut random, 525 * 413, Values::Wild);
-    let bytes = file(2, shape, &planes);
+    let bytes = layout(2, shape, &planes);
     let header = lapped_header { number: 0, mode: 2, size: shape };
     assert_file_sound(&bytes, header, &planes, &mut random);
     assert_same(&save(2, shape, &planes, &mut random), &bytes, "largest file");
@@ -158,7 +160,7 @@ fn every_length_near_the_right_one() {
     for (width, height) in [(1, 1), (2, 1), (3, 4)] {
         let shape = raw_size(width, height);
         let planes = random_planes(&mut random, (width * height) as usize, Values::Wild);
-        let sound = file(1, shape, &planes);
+        let sound = layout(1, shape, &planes);
         let longer = [&sound[..], &random.bytes(80)].concat();
         let near = sound.len() - 80..sound.len() + 80;
         for length in (0..80).chain(near) {
@@ -175,22 +177,13 @@ fn every_length_near_the_right_one() {
     }
 }
 
-/// The values that a damaged word takes: each bit flipped, the neighbours, the ends of the range.
-fn damaged(old: u32, random: &mut Random) -> Vec<u32> {
-    let mut words: Vec<u32> = (0..32).map(|bit| old ^ 1 << bit).collect();
-    words.extend([old.wrapping_add(1), old.wrapping_sub(1), 0, 1, 0x7FFF_FFFF, 0x8000_0000]);
-    words.extend([u32::MAX, old.swap_bytes(), random.bits() as u32]);
-    words.retain(|&word| word != old);
-    words
-}
-
 #[test]
 fn each_header_word_damaged_in_turn() {
     let mut random = Random::new(45);
-    for (mode, width, height) in [(0, 1, 1), (1, 3, 2), (2, 2, 5)] {
+    for (mode, width, height) in [(0, 2, 2), (1, 3, 2), (2, 2, 5)] {
         let shape = raw_size(width, height);
         let planes = random_planes(&mut random, (width * height) as usize, Values::Wild);
-        let sound = file(mode, shape, &planes);
+        let sound = layout(mode, shape, &planes);
         for index in 0..8 {
             for damage in damaged(word(&sound, index), &mut random) {
                 let mut bytes = sound.clone();
@@ -240,29 +233,6 @@ fn huge_sides() {
     }
 }
 
-/// Breaks a file so that this number's check fails.
-fn break_file(bytes: &mut Vec<u8>, number: u32, random: &mut Random) {
-    match number {
-        1 => set_word(bytes, 0, any(random, &BAD_MODES)),
-        2 => set_word(bytes, 1, any(random, &bad_sides(525))),
-        3 => set_word(bytes, 2, any(random, &bad_sides(413))),
-        10 => set_word(bytes, 7, 1 << random.below(32)),
-        11 => {
-            let index = 3 + random.below(4);
-            let old = word(bytes, index);
-            let damages = damaged(old, random);
-            set_word(bytes, index, any(random, &damages));
-        }
-        12 if random.below(2) == 0 => {
-            let more = 1 + random.below(100);
-            bytes.extend(random.bytes(more));
-        }
-        12 => bytes.truncate(32 + random.below(bytes.len() - 32)),
-        9 => bytes.truncate(random.below(32)),
-        _ => unreachable!("no check of a file has the number {number}"),
-    }
-}
-
 /// Load refuses this file into planes of these lengths, and changes nothing.
 fn assert_load_refused(
     bytes: &[u8],
@@ -285,32 +255,17 @@ fn assert_load_refused(
 
 #[test]
 fn every_set_of_faults_of_load() {
-    let mut random = Random::new(47);
-    for (numbers, first) in faults(&[9, 1, 2, 3, 10, 11, 12, 4, 5, 6]) {
-        let what = format!("faults {numbers:?}");
-        let shape = raw_size(1 + random.below(3) as u32, 1 + random.below(3) as u32);
-        let mut arguments = Arguments::fitting(random.below(3) as u32, shape.width, shape.height);
-        let planes = random_planes(&mut random, arguments.length(4), Values::Wild);
-        let mut bytes = file(arguments.mode, shape, &planes);
-        // The file is cut last, since a word can only be damaged while it is there.
-        for number in [1, 2, 3, 10, 11, 12, 9] {
-            if numbers.contains(&number) {
-                break_file(&mut bytes, number, &mut random);
-            }
-        }
-        for number in [4, 5, 6] {
-            if numbers.contains(&number) {
-                arguments = any(&mut random, &arguments.broken(number));
-            }
-        }
+    let checks = Loading::checks(&[9, 1, 2, 3, 10, 11, 12, 4, 5, 6]);
+    try_sets_of_faults(&checks, Loading::sound, &mut Random::new(47), |case, random| {
+        let Loading { bytes, arguments } = case.arguments;
         // The header knows nothing of the planes.
-        let header = match first {
-            4..=6 => lapped_header { number: 0, mode: arguments.mode, size: shape },
-            _ => refused(first),
+        let header = match case.number {
+            4..=6 => lapped_header { number: 0, mode: arguments.mode, size: arguments.size },
+            _ => refused(case.number),
         };
-        assert_eq!(raw::read_header(&bytes), header, "{what}");
-        assert_load_refused(&bytes, arguments, first, &what, &mut random);
-    }
+        assert_eq!(raw::read_header(&bytes), header, "{}", case.what);
+        assert_load_refused(&bytes, arguments, case.number, &case.what, random);
+    });
 }
 
 #[test]
@@ -319,7 +274,7 @@ fn load_into_planes_of_every_wrong_length() {
     for (width, height) in [(1, 1), (2, 3)] {
         let sound = Arguments::fitting(1, width, height);
         let planes = random_planes(&mut random, sound.length(4), Values::Wild);
-        let bytes = file(sound.mode, sound.size, &planes);
+        let bytes = layout(sound.mode, sound.size, &planes);
         for number in [4, 5, 6] {
             for arguments in sound.broken(number) {
                 let what = format!("{arguments:?}");

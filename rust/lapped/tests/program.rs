@@ -1,7 +1,8 @@
 //! The program `samples`, run on plane files, against the reference's text.
 
 mod common;
-use common::set_word;
+use common::faults::try_sets_of_faults;
+use common::file::{set_word, Loading};
 use reference::random::{Random, Values};
 use reference::{plane_file, program, Size};
 use std::io::Write;
@@ -74,10 +75,10 @@ fn dc_64_prints_sixteen_lines_of_fours() {
 #[test]
 fn random_files() {
     let mut random = Random::new(61);
-    for (width, height) in
-        [(1, 1), (1, 2), (3, 1), (2, 2), (3, 5), (5, 3), (1, 16), (16, 1), (4, 4)]
-    {
-        for mode in 0..=2 {
+    let narrow = [(1, 1), (1, 2), (3, 1), (1, 16), (16, 1)].map(|shape| (shape, 1));
+    let others = [(2, 2), (3, 5), (5, 3), (2, 8), (8, 2), (4, 4)].map(|shape| (shape, 2));
+    for ((width, height), most) in narrow.into_iter().chain(others) {
+        for mode in 0..=most {
             for values in Values::ALL {
                 let bytes = file(mode, Size::new(width, height), &mut random, values);
                 let text = run(&bytes);
@@ -99,18 +100,18 @@ fn numbers_of_every_length() {
         samples.extend([power - 1, power, power + 1, 1 - power, -power, -power - 1]);
     }
     samples.extend([i32::MIN, i32::MIN + 1, i32::MAX, i32::MAX - 1, 0, 1, -1]);
-    samples.resize(256, 42);
-    let size = Size::new(1, 1);
+    samples.resize(4 * 256, 42);
+    let size = Size::new(2, 2);
     for mode in 0..=2 {
-        let (mut dc, mut low, mut high) = (vec![0; 1], vec![0; 15], vec![0; 240]);
+        let (mut dc, mut low, mut high) = (vec![0; 4], vec![0; 4 * 15], vec![0; 4 * 240]);
         reference::forward(mode, size, &samples, &mut dc, &mut low, &mut high).unwrap();
-        let mut bytes = vec![0; 32 + 1024];
+        let mut bytes = vec![0; 32 + 4 * 1024];
         plane_file::save(mode, size, &dc, &low, &high, &mut bytes).unwrap();
 
         let text = run(&bytes);
         let mut expected = String::new();
         for (i, sample) in samples.iter().enumerate() {
-            expected += &format!("{sample}{}", if i % 16 == 15 { '\n' } else { ' ' });
+            expected += &format!("{sample}{}", if i % 32 == 31 { '\n' } else { ' ' });
         }
         assert_eq!(text, expected, "mode {mode}");
     }
@@ -157,8 +158,8 @@ fn refusals() {
 #[test]
 fn more_than_sixteen_macroblocks() {
     let mut random = Random::new(63);
-    for (width, height) in [(1, 17), (17, 1), (6, 3), (525, 1), (1, 413)] {
-        let bytes = file(2, Size::new(width, height), &mut random, Values::Small);
+    for (mode, width, height) in [(1, 1, 17), (0, 17, 1), (2, 6, 3), (1, 525, 1), (0, 1, 413)] {
+        let bytes = file(mode, Size::new(width, height), &mut random, Values::Small);
         assert_refused(&bytes, 13, "whole");
         assert_refused(&bytes[..32], 13, "a header alone");
         assert_refused(&bytes[..bytes.len() - 1], 13, "cut");
@@ -186,30 +187,12 @@ fn one_byte_more_than_sixteen_macroblocks() {
     }
 }
 
-/// Every set of faults; each of them alone gives its number, together the first does.
 #[test]
 fn order_of_the_checks() {
-    const ORDER: [u32; 7] = [1, 2, 3, 10, 11, 13, 12];
-    let mut random = Random::new(65);
-    for set in 1..1usize << ORDER.len() {
-        let faults: Vec<u32> = (0..7).filter(|i| set >> i & 1 == 1).map(|i| ORDER[i]).collect();
-        let size = if faults.contains(&13) { Size::new(6, 3) } else { Size::new(3, 2) };
-        let mut bytes = file(2, size, &mut random, Values::Wild);
-        for fault in &faults {
-            match fault {
-                1 => set_word(&mut bytes, 0, 3),
-                2 => set_word(&mut bytes, 1, 526),
-                3 => set_word(&mut bytes, 2, 414),
-                10 => set_word(&mut bytes, 7, 7),
-                11 => set_word(&mut bytes, 3 + random.below(4), 64),
-                12 => bytes.truncate(32 + random.below(1000)),
-                _ => {}
-            }
-        }
-        assert_refused(&bytes, faults[0], &format!("faults {faults:?}"));
-        bytes.truncate(random.below(32));
-        assert_refused(&bytes, 9, &format!("faults {faults:?} in fewer than 32 bytes"));
-    }
+    let checks = Loading::checks(&[9, 1, 2, 3, 10, 11, 13, 12]);
+    try_sets_of_faults(&checks, Loading::sound, &mut Random::new(65), |case, _| {
+        assert_refused(&case.arguments.bytes, case.number, &case.what);
+    });
 }
 
 /// Input that comes bit by bit, as through a slow pipe.

@@ -1,9 +1,9 @@
 //! The quarter view against the reference.
 
 mod common;
-use common::refusals::{number_of, Operation};
+use common::refusals::{number_of, Operation, Refusing};
 use common::*;
-use lapped::{Mode, PlanesRef, Wrapped};
+use lapped::{Mode, Planes, PlanesRef, Wrapped};
 use reference::random::{Random, Values};
 
 #[test]
@@ -28,6 +28,35 @@ fn random_pictures() {
                 view.assert_holds(&expected, &what);
                 dc.assert_unchanged(&what);
                 low.assert_unchanged(&what);
+            }
+        }
+    }
+}
+
+/// What the documentation says of a flat picture of samples v. In mode 0 a block's DC is 16 v / 4. Else
+/// Figures 4.11 and 4.10, undone without rounding, take four equal numbers v to 13 v / 8, 0, 0 and v,
+/// and 13 v / 8 with v to 2821 v / 2048, of which a block's DC is twice as much.
+#[test]
+fn scale_of_a_flat_picture() {
+    const V: i32 = 1 << 20; // many halves of it are whole
+    let shape = size(3, 3);
+    for (mode, middle, edge, corner) in [
+        (Mode::Unfiltered, 4 * V, 100.0, 100.0),
+        (Mode::SampleLevel, 2821 * (V / 1024), 110.0, 115.0),
+        (Mode::BothLevels, 2821 * (V / 1024), 110.0, 115.0),
+    ] {
+        let (planes, _) = Planes::from_samples(mode, shape, &vec![V; shape.samples()]).unwrap();
+        let (view, _) = planes.to_quarter_view(mode).unwrap();
+        let across = shape.view_across();
+        let rim = |i: usize| i == 0 || i == across - 1;
+        for (i, &number) in view.iter().enumerate() {
+            let (y, x) = (i / across, i % across);
+            let what = format!("{mode:?}, row {y}, column {x}: {number}");
+            let percent = 100.0 * f64::from(number) / f64::from(middle);
+            match (rim(y), rim(x)) {
+                (false, false) => assert_eq!(number, middle, "{what}"),
+                (true, true) => assert!((percent - corner).abs() < 0.6, "{what}"),
+                _ => assert!((percent - edge).abs() < 0.6, "{what}"),
             }
         }
     }

@@ -1,6 +1,8 @@
 //! What the tests share: shapes, planes, and lent memory with guard cells.
 #![allow(dead_code)] // Each test file is a crate of its own and uses a part of this.
 
+pub mod faults;
+pub mod file;
 pub mod raw;
 pub mod refusals;
 pub mod traced;
@@ -198,11 +200,6 @@ pub fn lent_mut(lent: &mut [Lent<i32>; 3]) -> PlanesMut<'_> {
     PlanesMut { dc, low, high }
 }
 
-/// Puts a word into the header of a plane file.
-pub fn set_word(bytes: &mut [u8], index: usize, word: u32) {
-    bytes[4 * index..4 * index + 4].copy_from_slice(&word.to_le_bytes());
-}
-
-pub fn any<T: Copy>(random: &mut Random, choices: &[T]) -> T {
-    choices[random.below(choices.len())]
+pub fn any<T: Clone>(random: &mut Random, choices: &[T]) -> T {
+    choices[random.below(choices.len())].clone()
 }

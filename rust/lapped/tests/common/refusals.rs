@@ -1,42 +1,43 @@
-//! Faulty arguments, each alone and all together, and that they are refused with nothing changed.
+//! Calls of the C interface with faulty arguments: that they are refused with nothing changed.
 
-use super::{any, lend_filled_bytes, lend_numbers, raw_size, slices, Lent};
+use super::faults::{try_sets_of_faults, Check};
+use super::{lend_filled_bytes, lend_numbers, raw_size, slices};
 use lapped_sys::{lapped_answer, lapped_size};
 use reference::random::{Random, Values};
-
-/// A check of a call, by its number. A call that reads planes and writes others makes the checks 4, 5
-/// and 6 of both, and one that reads samples and writes others makes check 7 of both; the second ones
-/// are about what it writes.
-#[derive(Clone, Copy)]
-pub struct Check {
-    number: u32,
-    second: bool,
-}
+use std::fmt::Debug;
 
 /// What the checks 4, 5, 6, 7, 8 and 12 are about has a length.
 const LENGTH_NUMBERS: [u32; 6] = [4, 5, 6, 7, 8, 12];
 
-impl Check {
-    /// The checks of these numbers, in the same order.
-    fn all(numbers: &[u32]) -> Vec<Check> {
-        let second = |i: usize| numbers[..i].contains(&numbers[i]);
-        (0..numbers.len()).map(|i| Check { number: numbers[i], second: second(i) }).collect()
+/// What a check of a length is about: the slice that the check of this number is about when it is made
+/// for the first time (0), or the second (1), and so on.
+#[derive(Clone, Copy)]
+pub struct Slice {
+    number: u32,
+    time: usize,
+}
+
+impl Slice {
+    /// The slices that checks of these numbers are about, in the same order.
+    fn all(numbers: &[u32]) -> Vec<Slice> {
+        let time = |i: usize| numbers[..i].iter().filter(|&&number| number == numbers[i]).count();
+        (0..numbers.len()).map(|i| Slice { number: numbers[i], time: time(i) }).collect()
     }
 
-    /// Where the arguments have the length of what this check is about.
+    /// Where the arguments have the length.
     fn place(self) -> [usize; 2] {
-        let place = LENGTH_NUMBERS.iter().position(|&number| number == self.number).unwrap();
-        [usize::from(self.second), place]
+        let place = LENGTH_NUMBERS.iter().position(|&number| number == self.number);
+        [self.time, place.expect("a check of a length")]
     }
 }
 
-impl From<u32> for Check {
+impl From<u32> for Slice {
     fn from(number: u32) -> Self {
-        Check { number, second: false }
+        Slice { number, time: 0 }
     }
 }
 
-/// The arguments of a call but for the contents of what is lent.
+/// The arguments of a call about one picture, but for the contents of what is lent.
 #[derive(Clone, Copy, Debug)]
 pub struct Arguments {
     pub mode: u32,
@@ -45,9 +46,9 @@ pub struct Arguments {
     pub steps: [u32; 3],
     /// How far a sample may be off, for a call that takes it; every tolerance is sound.
     pub tolerance: u32,
-    /// The lengths of what the numbers above are about, in that order: for checks that a call makes
-    /// twice first those of what it reads, then those of what it writes.
-    lengths: [[usize; 6]; 2],
+    /// The lengths of what the numbers above are about, in that order, for each time. No call checks
+    /// lengths by the same number more than three times.
+    lengths: [[usize; 6]; 3],
     /// Of the contents, the only number that a check is about.
     outside: Option<Outside>,
 }
@@ -66,8 +67,19 @@ impl Arguments {
     pub fn fitting(mode: u32, width: u32, height: u32) -> Self {
         let size = raw_size(width, height);
         let n = size.width as usize * size.height as usize;
-        let lengths = [[n, 15 * n, 240 * n, 256 * n, 16 * n, 32 + 1024 * n]; 2];
+        let lengths = [[n, 15 * n, 240 * n, 256 * n, 16 * n, 32 + 1024 * n]; 3];
         Arguments { mode, size, steps: [0, 40, 255], tolerance: 5, lengths, outside: None }
+    }
+
+    /// Sound arguments of a small picture; in mode 2 it is neither one macroblock wide nor one high,
+    /// which would not do for a plane file.
+    pub fn sound(random: &mut Random) -> Self {
+        let mode = random.below(3) as u32;
+        let least = if mode == 2 { 2 } else { 1 };
+        let [width, height] = [0; 2].map(|_| least + random.below(3) as u32);
+        let steps = [0; 3].map(|_| random.below(256) as u32);
+        let tolerance = random.bits() as u32;
+        Arguments { steps, tolerance, ..Arguments::fitting(mode, width, height) }
     }
 
     /// The size for the reference.
@@ -75,22 +87,29 @@ impl Arguments {
         reference::Size::new(self.size.width, self.size.height)
     }
 
-    /// The length of what this check is about.
-    pub fn length(&self, check: impl Into<Check>) -> usize {
-        let [set, place] = check.into().place();
-        self.lengths[set][place]
+    /// The length of what a check is about.
+    pub fn length(&self, slice: impl Into<Slice>) -> usize {
+        let [time, place] = slice.into().place();
+        self.lengths[time][place]
     }
 
-    fn set_length(&mut self, check: Check, length: usize) {
-        let [set, place] = check.place();
-        self.lengths[set][place] = length;
+    fn set_length(&mut self, slice: Slice, length: usize) {
+        let [time, place] = slice.place();
+        self.lengths[time][place] = length;
     }
 
-    /// Every way to make this check fail, the other arguments left as they are.
-    pub fn broken(self, check: impl Into<Check>) -> Vec<Arguments> {
+    /// The checks of these numbers, in the same order.
+    pub fn checks(numbers: &[u32]) -> Vec<Check<Arguments>> {
+        let check =
+            |slice: Slice| Check::new(slice.number, move |a: &Arguments, _| a.broken(slice));
+        Slice::all(numbers).into_iter().map(check).collect()
+    }
+
+    /// Every way to make a check fail, the other arguments left as they are.
+    pub fn broken(&self, check: impl Into<Slice>) -> Vec<Arguments> {
         let check = check.into();
         let with = |change: &dyn Fn(&mut Arguments)| {
-            let mut arguments = self;
+            let mut arguments = *self;
             change(&mut arguments);
             arguments
         };
@@ -114,8 +133,8 @@ impl Arguments {
     fn with_products_outside(mut self, band: usize) -> Vec<Arguments> {
         // No level is too large for step 1, which indices 0 and 1 choose.
         self.steps[band] = self.steps[band].max(2);
-        // An index above 255 has no step; it is refused before any level is looked at.
-        let step = reference::step_sizes::step(self.steps[band]).unwrap_or(2) as i32;
+        let step = reference::step_sizes::step(self.steps[band]).expect("an index up to 255");
+        let step = step as i32;
         let levels = [i32::MAX / step + 1, i32::MIN / step - 1, i32::MAX, i32::MIN];
         let ends = [false, true].map(|last| levels.map(|level| Outside { band, last, level }));
         let outside = ends.concat().into_iter().map(Some);
@@ -148,57 +167,12 @@ pub fn bad_sides(limit: u32) -> [u32; 7] {
 }
 
 /// Lengths other than `right`: by one, none at all, or a wrong multiple.
-fn bad_lengths(right: usize) -> Vec<usize> {
+pub fn bad_lengths(right: usize) -> Vec<usize> {
     let mut lengths = vec![right - 1, right + 1, 0, right / 15, right / 16];
     lengths.extend([2, 15, 16].map(|factor| factor * right));
     lengths.retain(|&length| length != right);
     lengths
 }
-
-/// Every set of faults of an operation whose checks run in `order`, with the check that is answered:
-/// the first that fails.
-pub fn faults<T: Copy>(order: &[T]) -> impl Iterator<Item = (Vec<T>, T)> + '_ {
-    (1..1usize << order.len()).map(move |set| {
-        let checks: Vec<T> =
-            (0..order.len()).filter(|i| set >> i & 1 == 1).map(|i| order[i]).collect();
-        let first = checks[0];
-        (checks, first)
-    })
-}
-
-/// Sound arguments of random modes, steps, tolerances and small shapes, broken by every set of faults:
-/// a fault alone in every way, several together in random ones. With each comes the number of the
-/// papers.
-pub fn refused_arguments(
-    order: &'static [u32],
-    random: &mut Random,
-) -> Vec<(Arguments, u32, String)> {
-    let mut refused = Vec::new();
-    for (checks, first) in faults(&Check::all(order)) {
-        let numbers: Vec<u32> = checks.iter().map(|check| check.number).collect();
-        for _ in 0..4 {
-            let [mode, width, height] = [0, 1, 1].map(|least| least + random.below(3) as u32);
-            let steps = [0; 3].map(|_| random.below(256) as u32);
-            let tolerance = random.bits() as u32;
-            let sound = Arguments { steps, tolerance, ..Arguments::fitting(mode, width, height) };
-            let mut broken = vec![sound];
-            for &check in &checks {
-                broken = any(random, &broken).broken(check);
-            }
-            if checks.len() > 1 {
-                broken = vec![any(random, &broken)];
-            }
-            for arguments in broken {
-                let what = format!("faults {numbers:?} in {arguments:?}");
-                refused.push((arguments, first.number, what));
-            }
-        }
-    }
-    refused
-}
-
-/// A call with its arguments, the slices of numbers that they are about, and bytes.
-type Call<Answer, const N: usize> = fn(Arguments, [&mut [i32]; N], &mut [u8]) -> Answer;
 
 /// The number of a refused call of the transform, which tells of no wrap, whatever it is lent.
 pub fn number_of(answer: lapped_answer) -> u32 {
@@ -206,7 +180,65 @@ pub fn number_of(answer: lapped_answer) -> u32 {
     answer.number
 }
 
-/// A call of the C interface and the reference's, with what is lent to them.
+/// A call of the C interface and the reference's, to which N slices of numbers are lent, and bytes.
+pub trait Refusing<const N: usize> {
+    type Arguments: Clone + Debug;
+
+    fn sound(&self, random: &mut Random) -> Self::Arguments;
+
+    /// The checks, in the order of the papers.
+    fn checks(&self) -> Vec<Check<Self::Arguments>>;
+
+    /// What is to be lent for these arguments.
+    fn numbers(&self, arguments: &Self::Arguments, random: &mut Random) -> [Vec<i32>; N];
+
+    /// How many bytes are to be lent.
+    fn bytes(&self, arguments: &Self::Arguments) -> usize;
+
+    fn library(&self, a: &Self::Arguments, numbers: [&mut [i32]; N], bytes: &mut [u8]) -> u32;
+
+    fn reference(
+        &self,
+        a: &Self::Arguments,
+        numbers: [&mut [i32]; N],
+        bytes: &mut [u8],
+    ) -> Result<(), u32>;
+
+    /// Both refuse these arguments with `expected`, and change nothing.
+    fn assert_refuses(
+        &self,
+        arguments: &Self::Arguments,
+        expected: u32,
+        what: &str,
+        random: &mut Random,
+    ) {
+        let contents = self.numbers(arguments, random);
+        let mut numbers = contents.map(|numbers| lend_numbers(random, &numbers));
+        let mut bytes = lend_filled_bytes(random, self.bytes(arguments));
+        let answer = self.library(arguments, slices(&mut numbers), bytes.slice_mut());
+        assert_eq!(answer, expected, "{what}");
+        numbers.iter().for_each(|lent| lent.assert_unchanged(what));
+        bytes.assert_unchanged(what);
+
+        let answer = self.reference(arguments, slices(&mut numbers), bytes.slice_mut());
+        let what = format!("the reference: {what}");
+        assert_eq!(answer, Err(expected), "{what}");
+        numbers.iter().for_each(|lent| lent.assert_unchanged(&what));
+        bytes.assert_unchanged(&what);
+    }
+
+    fn assert_refuses_every_set_of_faults(&self, random: &mut Random) {
+        let sound = |random: &mut Random| self.sound(random);
+        try_sets_of_faults(&self.checks(), sound, random, |case, random| {
+            self.assert_refuses(&case.arguments, case.number, &case.what, random);
+        });
+    }
+}
+
+/// A call with its arguments, the slices of numbers that they are about, and bytes.
+type Call<Answer, const N: usize> = fn(Arguments, [&mut [i32]; N], &mut [u8]) -> Answer;
+
+/// A call about one picture.
 pub struct Operation<const N: usize> {
     /// The numbers of the checks, in the order of the papers.
     pub checks: &'static [u32],
@@ -216,55 +248,59 @@ pub struct Operation<const N: usize> {
     pub reference: Call<Result<(), u32>, N>,
 }
 
-impl<const N: usize> Operation<N> {
-    /// Both refuse these arguments with `expected`, and change nothing.
-    pub fn assert_refuses(
-        &self,
-        arguments: Arguments,
-        expected: u32,
-        what: &str,
-        random: &mut Random,
-    ) {
-        let mut numbers = self.lend(arguments, random);
-        let count = if self.checks.contains(&12) { arguments.length(12) } else { 0 };
-        let mut bytes = lend_filled_bytes(random, count);
-        let answer = (self.library)(arguments, slices(&mut numbers), bytes.slice_mut());
-        assert_eq!(answer, expected, "{what}");
-        numbers.iter().for_each(|lent| lent.assert_unchanged(what));
-        bytes.assert_unchanged(what);
+impl<const N: usize> Refusing<N> for Operation<N> {
+    type Arguments = Arguments;
 
-        let answer = (self.reference)(arguments, slices(&mut numbers), bytes.slice_mut());
-        let what = format!("the reference: {what}");
-        assert_eq!(answer, Err(expected), "{what}");
-        numbers.iter().for_each(|lent| lent.assert_unchanged(&what));
-        bytes.assert_unchanged(&what);
+    fn sound(&self, random: &mut Random) -> Arguments {
+        Arguments::sound(random)
     }
 
-    /// Slices of numbers for these arguments: any numbers, or levels where 15 is a check.
-    fn lend(&self, arguments: Arguments, random: &mut Random) -> [Lent<i32>; N] {
-        let checks = Check::all(&self.lent);
+    fn checks(&self) -> Vec<Check<Arguments>> {
+        Arguments::checks(self.checks)
+    }
+
+    /// Any numbers, or levels in the planes that are read where 15 is a check.
+    fn numbers(&self, arguments: &Arguments, random: &mut Random) -> [Vec<i32>; N] {
+        let lent = Slice::all(&self.lent);
         std::array::from_fn(|i| {
-            let mut numbers = random.numbers(arguments.length(checks[i]), Values::Wild);
-            if self.checks.contains(&15) && !checks[i].second {
+            let mut numbers = random.numbers(arguments.length(lent[i]), Values::Wild);
+            if self.checks.contains(&15) && lent[i].time == 0 {
                 arguments.set_levels(i, &mut numbers);
             }
-            lend_numbers(random, &numbers)
+            numbers
         })
     }
 
-    pub fn assert_refuses_every_set_of_faults(&self, random: &mut Random) {
-        for (arguments, expected, what) in refused_arguments(self.checks, random) {
-            self.assert_refuses(arguments, expected, &what, random);
+    fn bytes(&self, arguments: &Arguments) -> usize {
+        if self.checks.contains(&12) {
+            arguments.length(12)
+        } else {
+            0
         }
     }
 
+    fn library(&self, a: &Arguments, numbers: [&mut [i32]; N], bytes: &mut [u8]) -> u32 {
+        (self.library)(*a, numbers, bytes)
+    }
+
+    fn reference(
+        &self,
+        a: &Arguments,
+        numbers: [&mut [i32]; N],
+        bytes: &mut [u8],
+    ) -> Result<(), u32> {
+        (self.reference)(*a, numbers, bytes)
+    }
+}
+
+impl<const N: usize> Operation<N> {
     /// Just outside the limits, with all lengths right for that size.
     pub fn assert_refuses_outside_the_limits(&self, random: &mut Random) {
         for (mode, width, height, expected) in
             [(0, 0, 1, 2), (1, 526, 1, 2), (2, 1, 0, 3), (0, 1, 414, 3), (3, 0, 1, 1), (3, 1, 1, 1)]
         {
             let arguments = Arguments::fitting(mode, width, height);
-            self.assert_refuses(arguments, expected, &format!("{arguments:?}"), random);
+            self.assert_refuses(&arguments, expected, &format!("{arguments:?}"), random);
         }
     }
 }
