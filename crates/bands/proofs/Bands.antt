@@ -9,7 +9,9 @@ use lib.Dec.{ltb}
 use lib.IntN.{ℤ}
 use Rattle.picture.specs.Planes.{Planes, Lengths, planes}
 use Rattle.picture.specs.Numbers.{firstOf, planeChecks}
-use Rattle.picture.proofs.CheckLaws.{all-pass, passes, either-false, planes-fit}
+use Rattle.picture.specs.Refusals.{stepIndex}
+use Rattle.picture.proofs.NumberLaws.{both-pass}
+use Rattle.picture.proofs.CheckLaws.{passes, either-false, planes-fit}
 use Rattle.bands.specs.declared.steps.Steps.{Steps}
 use Rattle.bands.specs.Bands.{Indexed, SameLengths}
 use Rattle.bands.specs.Numbers.{stepCheck, bandChecks}
@@ -21,18 +23,12 @@ by-plane e f g = rw (e, f, g)
 
 indexed : (steps : Steps) → firstOf (stepCheck steps) ≡ 0 → Indexed steps
 indexed steps e =
-    let p = either-false (ltb 255 (steps .dc)) (ltb 255 (steps .low) || ltb 255 (steps .high)) (passes 14 _ tt (all-pass (stepCheck steps) e .0)) in
+    let p = either-false (ltb 255 (steps .dc)) (ltb 255 (steps .low) || ltb 255 (steps .high)) (passes stepIndex _ tt e) in
     let q = either-false (ltb 255 (steps .low)) (ltb 255 (steps .high)) (p .1) in
     record { dc = ltb-false _ _ (p .0); low = ltb-false _ _ (q .0); high = ltb-false _ _ (q .1) }
 
 same-lengths : {n : ℕ} {s t : Planes} → Lengths n s → Lengths n t → SameLengths s t
 same-lengths f g = record { dc = f .dc ∙ sym (g .dc); low = f .low ∙ sym (g .low); high = f .high ∙ sym (g .high) }
-
--- where two lists of checks pass together, each passes
-both-pass : (xs ys : List ℕ) → firstOf (xs ++ ys) ≡ 0 → (firstOf xs ≡ 0) × (firstOf ys ≡ 0)
-both-pass [] ys e = (refl, e)
-both-pass (zero ∷ xs) ys e = both-pass xs ys e
-both-pass (suc k ∷ xs) ys e = absurd (omega (arith, e))
 
 module _ (n : ℕ) (steps : Steps) (s t : Planes) (e : firstOf (bandChecks n steps s t) ≡ 0) where
   pub bands-indexed : Indexed steps

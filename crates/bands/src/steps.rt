@@ -5,7 +5,8 @@ ghost use Rattle.picture.specs.Numbers.{firstOf};
 ghost use Rattle.picture.specs.Planes.{planes};
 ghost use Rattle.bands.specs.Numbers.{stepCheck, bandChecks};
 use picture::checks::check_planes;
-use picture::counts::Macroblocks;
+use picture::counts::Area;
+use picture::refusals::STEP_INDEX;
 
 #[repr(C)]
 pub struct Steps {
@@ -19,20 +20,20 @@ fn check_steps(steps: Steps) -> u32
     ensures { λ r. ⌜ r ≡ firstOf (stepCheck steps) ⌝ }
 {
     if 255 < steps.dc {
-        return 14;
+        return STEP_INDEX;
     }
     if 255 < steps.low {
-        return 14;
+        return STEP_INDEX;
     }
     if 255 < steps.high {
-        return 14;
+        return STEP_INDEX;
     }
     0
 }
 
 // The number of the first check that fails of the step indices, the planes read and the planes written, or 0.
 pub fn check_bands(
-    n: Macroblocks,
+    n: Area,
     steps: Steps,
     dc: &[i32],
     low: &[i32],

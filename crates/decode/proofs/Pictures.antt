@@ -13,14 +13,14 @@ use Rattle.decimal.proofs.Digits.{digits-at-most}
 use Rattle.picture.specs.Sizes.{Sized, macroblocks}
 use Rattle.picture.specs.Modes.{modeOf}
 use Rattle.picture.specs.Planes.{PlanesOf}
-use Rattle.picture.proofs.NumberLaws.{settled-done, settled-refused}
+use Rattle.picture.proofs.NumberLaws.{both-pass, settled-done, settled-refused}
 use Rattle.transform.proofs.OnePlanes.{row-inverse}
 use Rattle.picture.proofs.Table.{row-table}
 use Rattle.plane_file.specs.declared.header.Header.{Header}
-use Rattle.plane_file.specs.Words.{wordAt, numbersAt}
-use Rattle.plane_file.specs.Header.{sizeIn, headerOf, answer}
+use Rattle.plane_file.specs.Words.{numbersAt}
+use Rattle.plane_file.specs.Header.{modeIn, sizeIn, headerOf, answer}
 use Rattle.plane_file.specs.Numbers.{startChecks, totalCheck, countIn}
-use Rattle.plane_file.proofs.Checks.{number-of, read-sized, read-done, first-zero}
+use Rattle.plane_file.proofs.Checks.{number-of, read-sized, read-done}
 use Rattle.decode.specs.Program.{countCheck, programNumber, planesOf, samplesOf, left}
 use Rattle.decode.specs.Shown.{rows, shown}
 use Rattle.decode.proofs.Decide.{few}
@@ -48,7 +48,7 @@ module _ (bytes : List ℕ) (r : Header) (e : r ≡ answer (programNumber bytes)
       ∙ sym (settled-refused (programNumber bytes) (rows (16 * sizeIn bytes .height .0) (16 * sizeIn bytes .width .0) (samplesOf bytes)) (refusedLine (programNumber bytes)) (λ z. h (sym number ∙ z)))
 
   module _ (z : r .number ≡ 0) where
-    said : r ≡ headerOf 0 (wordAt bytes 0) (sizeIn bytes)
+    said : r ≡ headerOf 0 (modeIn bytes) (sizeIn bytes)
     unfolding programNumber
     said = read-done bytes (startChecks bytes ++ countCheck (countIn bytes) ++ totalCheck (countIn bytes) (length bytes)) r e z
 
@@ -60,7 +60,7 @@ module _ (bytes : List ℕ) (r : Header) (e : r ≡ answer (programNumber bytes)
     unfolding programNumber
     small =
         rw said
-        (few bytes (first-zero (startChecks bytes ++ countCheck (countIn bytes)) (totalCheck (countIn bytes) (length bytes)) (number ∙ z)))
+        (few bytes (both-pass (startChecks bytes ++ countCheck (countIn bytes)) (totalCheck (countIn bytes) (length bytes)) (number ∙ z) .0))
 
     -- sides of w and h samples
     module _ {w h : ℕ} (across : w ≡ 16 * r .size .width .0) (down : h ≡ 16 * r .size .height .0) where
@@ -73,7 +73,7 @@ module _ (bytes : List ℕ) (r : Header) (e : r ≡ answer (programNumber bytes)
       pub samples-row : Row (h * w) (samplesOf bytes)
       samples-row =
           let s = rw said at sized in
-          rw (← counted) (row-inverse (modeOf (wordAt bytes 0)) (sizeIn bytes) s (planes-row bytes))
+          rw (← counted) (row-inverse (modeOf (modeIn bytes)) (sizeIn bytes) s (planes-row bytes))
 
       pub front-is : (was : List ℤ) {v : List ℤ} → v ≡ left bytes (256 * countIn bytes) (samplesOf bytes) was → take (h * w) v ≡ samplesOf bytes
       front-is was q =

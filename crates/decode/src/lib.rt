@@ -12,6 +12,7 @@ ghost use Rattle.plane_file.specs.Calls.{headerAnswer};
 ghost use Rattle.plane_file.specs.Numbers.{startChecks, countIn, headerNumber};
 ghost use Rattle.decode.specs.Program.{countCheck, programNumber, planesOf, samplesOf, left};
 use inverse::inverse;
+use picture::refusals::TOO_MANY_MACROBLOCKS;
 use plane_file::header::Header;
 use plane_file::header::read_start;
 use plane_file::header::refused;
@@ -27,7 +28,7 @@ fn read_small(bytes: &[u8]) -> Header
     }
     let size = start.size;
     if 16 < size.macroblocks().0 {
-        return refused(13);
+        return refused(TOO_MANY_MACROBLOCKS);
     }
     start
 }

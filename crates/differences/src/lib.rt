@@ -6,7 +6,7 @@ ghost use lib.IntN.{natAbs, _-ℤ_};
 ghost use lib.ListN.{length};
 ghost use Rattle.lifting.specs.Tests.{all};
 ghost use Rattle.differences.specs.Near.{near};
-use picture::counts::Macroblocks;
+use picture::counts::Area;
 
 // Over whole numbers: at most 4294967295, which fits 32 bits without a sign.
 fn difference(a: i32, b: i32) -> u32
@@ -33,7 +33,7 @@ fn some_far(tolerance: u32, a: &[i32], b: &[i32], from: usize) -> bool
 }
 
 // Whether every sample of n macroblocks is within the tolerance; it ends at the first 256 among which one is not.
-pub fn all_near(n: Macroblocks, tolerance: u32, a: &[i32], b: &[i32]) -> bool
+pub fn all_near(n: Area, tolerance: u32, a: &[i32], b: &[i32]) -> bool
     requires { ⌜ n .0 ≤ 216825 ⌝ }
     requires { ⌜ length (now a) ≡ 256 * n .0 ⌝ }
     requires { ⌜ length (now b) ≡ 256 * n .0 ⌝ }

@@ -2,14 +2,15 @@
 use Prim.Native.Nat.{ℕ, zero, suc, _*_}
 use mathlib.Core.Path.{_≡_, refl, _∙_, sym}
 use mathlib.Core.Bool.{Bool}
-use mathlib.Core.List.{List}
+use mathlib.Core.List.{List, _++_}
 use borrow.Author.Tests.{eq-eqb, ne-eqb}
 use lib.IntN.{ℤ}
 use lib.ListN.{length}
 use Rattle.picture.specs.Planes.{Planes, Lengths}
-use Rattle.picture.specs.Numbers.{firstOf, settled, planeChecks}
-use Rattle.picture.proofs.NumberLaws.{settled-refused}
-use Rattle.picture.proofs.CheckLaws.{all-pass, pass-all, passes, like, planes-fit}
+use Rattle.picture.specs.Refusals.{samplesLength}
+use Rattle.picture.specs.Numbers.{firstOf, settled, planeChecks, sampleCheck}
+use Rattle.picture.proofs.NumberLaws.{both-pass, settled-refused}
+use Rattle.picture.proofs.CheckLaws.{planes-fit, samples-fit}
 use Rattle.find_step.specs.FindStep.{IndexBeside, lengthChecks}
 
 -- every slice of its length
@@ -19,11 +20,11 @@ pub record Fits (n : ℕ) (a b : List ℤ) (s : Planes) : Type 0 where
   pub planes : Lengths n s
 
 module _ (n : ℕ) (samples second : List ℤ) (s : Planes) where
-  pub samples-refused : (length samples ≡ 256 * n → ⊥) → 7 ≡ firstOf (lengthChecks n samples second s)
+  pub samples-refused : (length samples ≡ 256 * n → ⊥) → samplesLength ≡ firstOf (lengthChecks n samples second s)
   samples-refused h = simp (ne-eqb (length samples) (256 * n) h)
 
   module _ (e : length samples ≡ 256 * n) where
-    pub second-refused : (length second ≡ 256 * n → ⊥) → 7 ≡ firstOf (lengthChecks n samples second s)
+    pub second-refused : (length second ≡ 256 * n → ⊥) → samplesLength ≡ firstOf (lengthChecks n samples second s)
     second-refused h = simp (eq-eqb (length samples) (256 * n) e, ne-eqb (length second) (256 * n) h)
 
     pub planes-decide : length second ≡ 256 * n → {r : ℕ} → r ≡ firstOf (planeChecks n s) → r ≡ firstOf (lengthChecks n samples second s)
@@ -32,12 +33,9 @@ module _ (n : ℕ) (samples second : List ℤ) (s : Planes) where
   -- checks that pass
   pub lengths-fit : firstOf (lengthChecks n samples second s) ≡ 0 → Fits n samples second s
   lengths-fit e =
-      let p = all-pass (lengthChecks n samples second s) e in
-      record {
-        samples = like (length samples) (256 * n) (passes 7 _ tt (p .0));
-        second = like (length second) (256 * n) (passes 7 _ tt (p .1 .0));
-        planes = planes-fit n s (pass-all (planeChecks n s) (p .1 .1));
-      }
+      let (first, rest) = both-pass (sampleCheck n samples) (sampleCheck n second ++ planeChecks n s) e in
+      let (next, planes) = both-pass (sampleCheck n second) (planeChecks n s) rest in
+      record { samples = samples-fit n samples first; second = samples-fit n second next; planes = planes-fit n s planes }
 
 -- what a refusal leaves: index 0, and every slice as it was
 pub record Refused (k : ℕ) (test : ℕ → Bool) (t s : Planes) (u second : List ℤ) : Type 0 where

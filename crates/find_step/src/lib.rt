@@ -10,8 +10,9 @@ ghost use Rattle.find_step.specs.FindStep.{Answer, IndexBeside, lengthCh
 use picture::checks::Checked;
 use picture::checks::check_planes;
 use picture::checks::check_shape;
-use picture::counts::Macroblocks;
+use picture::counts::Area;
 use picture::mode::Mode;
+use picture::refusals::SAMPLES_LENGTH;
 use picture::size::Size;
 use tries::take_zero;
 use tries::try_index;
@@ -55,7 +56,7 @@ fn find_index(
 
 // The number of the first check that fails of the lengths of both samples and of the planes, or 0.
 fn check_lengths(
-    n: Macroblocks,
+    n: Area,
     samples: &[i32],
     second: &[i32],
     dc: &[i32],
@@ -67,10 +68,10 @@ fn check_lengths(
 {
     let wanted = 256 * (n.0 as usize);
     if samples.len() != wanted {
-        return 7;
+        return SAMPLES_LENGTH;
     }
     if second.len() != wanted {
-        return 7;
+        return SAMPLES_LENGTH;
     }
     check_planes(n, dc, low, high)
 }

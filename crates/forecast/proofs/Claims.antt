@@ -10,15 +10,15 @@ use Rattle.picture.specs.Sizes.{macroblocks, Shape}
 use Rattle.picture.specs.Modes.{modeOf}
 use Rattle.picture.specs.Planes.{Planes, Lengths}
 use Rattle.picture.specs.Numbers.{shapeChecks, planeChecks, sampleCheck, inverseNumber}
-use Rattle.picture.proofs.NumberLaws.{settled-done}
-use Rattle.picture.proofs.CheckLaws.{all-pass, pass-all, passes, like, shape-passes, planes-fit}
+use Rattle.picture.proofs.NumberLaws.{both-pass, settled-done}
+use Rattle.picture.proofs.CheckLaws.{shape-passes, planes-fit, samples-fit}
 use Rattle.forecast.specs.declared.Work.{Work}
 use Rattle.forecast.specs.Forecast.{workBy, forecastNumber, forecastAnswer}
 use Rattle.forecast.specs.Claims.{ForecastClaim}
 
 answered : (mode : ℕ) (size : Size) → Shape mode size → forecastAnswer mode size ≡ workBy (modeOf mode) size
 unfolding forecastNumber
-answered mode size s = settled-done (forecastNumber mode size) _ _ (pass-all (shapeChecks mode size) (shape-passes s))
+answered mode size s = settled-done (forecastNumber mode size) _ _ (shape-passes s)
 
 -- the lengths that the inverse asks for
 asked-lengths : (mode : ℕ) (size : Size) (s : Planes) (samples : List ℤ) → inverseNumber mode size s samples ≡ 0
@@ -26,9 +26,9 @@ asked-lengths : (mode : ℕ) (size : Size) (s : Planes) (samples : List ℤ) →
 unfolding inverseNumber
 asked-lengths mode size s samples e =
     let n = macroblocks size in
-    let p = all-pass (shapeChecks mode size ++ planeChecks n s ++ sampleCheck n samples) e in
-    let l = p .1 .1 .1 in
-    (planes-fit n s (pass-all (planeChecks n s) (l .0, (l .1 .0, (l .1 .1 .0, tt)))), like (length samples) (256 * n) (passes 7 _ tt (l .1 .1 .1 .0)))
+    let lengths = both-pass (shapeChecks mode size) (planeChecks n s ++ sampleCheck n samples) e .1 in
+    let (p, q) = both-pass (planeChecks n s) (sampleCheck n samples) lengths in
+    (planes-fit n s p, samples-fit n samples q)
 
 pub forecast-claim : ForecastClaim
 unfolding workBy

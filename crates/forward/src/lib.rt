@@ -21,6 +21,7 @@ use picture::checks::Checked;
 use picture::checks::check_planes;
 use picture::checks::check_shape;
 use picture::mode::Mode;
+use picture::refusals::SAMPLES_LENGTH;
 use picture::size::Size;
 
 // Level two undone, and then level one in DC and low-pass: the whole forward transform on slices of the right lengths, for those who do not ask whether a sum wrapped.
@@ -59,7 +60,7 @@ fn forward_sized(
 {
     let n = size.macroblocks();
     if samples.len() != 256 * (n.0 as usize) {
-        return refused(7);
+        return refused(SAMPLES_LENGTH);
     }
     let planes_number = check_planes(n, dc, low, high);
     if planes_number != 0 {

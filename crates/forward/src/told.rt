@@ -42,8 +42,9 @@ fn level_two_wraps(
         if plane_cores_wrap(size, dc, low, high) {
             return true;
         }
-        let across = 4 * (size.width.0 as usize);
-        let down = 4 * (size.height.0 as usize);
+        let blocks = size.blocks();
+        let across = blocks.width.0 as usize;
+        let down = blocks.height.0 as usize;
         return filters_wrap_if(samples, filtered, across, down);
     }
     false

@@ -23,6 +23,8 @@ use picture::checks::check_low;
 use picture::checks::check_planes;
 use picture::checks::check_shape;
 use picture::mode::Mode;
+use picture::refusals::SAMPLES_LENGTH;
+use picture::refusals::VIEW_LENGTH;
 use picture::size::Size;
 
 // Both levels, the first in the front of the samples: the whole inverse on slices of the right lengths, for those who do not ask whether a sum wrapped.
@@ -66,7 +68,7 @@ fn inverse_sized(
         return refused(planes_number);
     }
     if samples.len() != 256 * (n.0 as usize) {
-        return refused(7);
+        return refused(SAMPLES_LENGTH);
     }
     done(inverse_told(mode, size, dc, low, high, samples))
 }
@@ -103,7 +105,7 @@ fn quarter_sized(mode: Mode, size: Size, dc: &[i32], low: &[i32], view: &mut [i3
         return refused(low_number);
     }
     if view.len() != 16 * (n.0 as usize) {
-        return refused(8);
+        return refused(VIEW_LENGTH);
     }
     done(level_one_told(view, mode.first, size, dc, low))
 }

@@ -63,8 +63,9 @@ fn level_two_told(samples: &mut [i32], filtered: bool, size: Size, high: &[i32])
         if cores {
             return true;
         }
-        let across = 4 * (size.width.0 as usize);
-        let down = 4 * (size.height.0 as usize);
+        let blocks = size.blocks();
+        let across = blocks.width.0 as usize;
+        let down = blocks.height.0 as usize;
         return filters_wrap_if(samples, filtered, across, down);
     }
     false

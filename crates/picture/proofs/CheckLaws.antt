@@ -1,4 +1,4 @@
--- What checks that pass tell: each in turn is 0, so its test is false; and from that the facts that the tests were for.
+-- What checks that pass tell: the test of each is false, and so the facts that the tests are for. A list is taken apart by the names of its parts.
 use Prim.Native.Nat.{ℕ, zero, suc, _*_, _≤_, _<_}
 use mathlib.Core.Path.{_≡_, refl, sym, ap, _∙_}
 use mathlib.Core.Bool.{Bool, true, false, _||_}
@@ -17,32 +17,19 @@ use Rattle.picture.specs.declared.mode.ModeAnswer.the-variants.{Known, U
 use Rattle.picture.specs.declared.checks.Checked.{Checked}
 use Rattle.picture.specs.declared.checks.Checked.the-variants.{Ready, Refused}
 use Rattle.picture.specs.Sizes.{Sized, macroblocks, Shape}
-use Rattle.picture.specs.Modes.{modeAnswer, modeNumber, modeOf, checked}
+use Rattle.picture.specs.Refusals.{modeRange, widthRange, heightRange, dcLength, lowPassLength, highPassLength, samplesLength}
+use Rattle.picture.specs.Modes.{modeAnswer, modeNumber, modeOf, checked, checkedNumber}
 use Rattle.picture.specs.Planes.{Planes, Lengths}
-use Rattle.picture.specs.Numbers.{_if_, firstOf, settled, unlike, outside, shapeChecks, lowChecks, planeChecks}
-use Rattle.picture.proofs.NumberLaws.{refused-first, passed-first, settled-refused}
+use Rattle.picture.specs.Numbers.{_if_, firstOf, settled, unlike, outside, modeCheck, widthCheck, heightCheck, sizeChecks, shapeChecks, dcCheck, lowCheck, highCheck, lowChecks, planeChecks, sampleCheck}
+use Rattle.picture.proofs.NumberLaws.{refused-first, passed-first, both-pass, pass-both, settled-refused}
 
--- every check is 0
-abbrev pub AllPass : List ℕ → Type 0
-AllPass [] = Unit {0}
-AllPass (k ∷ checks) = (k ≡ 0) × AllPass checks
-
-pub all-pass : (checks : List ℕ) → firstOf checks ≡ 0 → AllPass checks
-all-pass [] e = tt
-all-pass (zero ∷ checks) e = (refl, all-pass checks e)
-all-pass (suc k ∷ checks) e = absurd (omega (arith, e))
-
-pub pass-all : (checks : List ℕ) → AllPass checks → firstOf checks ≡ 0
-pass-all [] p = refl
-pass-all (k ∷ checks) p = rw (p .0) (pass-all checks (p .1))
-
--- the test of a check that passes is false, and a false test passes
-pub passes : (k : ℕ) (b : Bool) → T (ltb 0 k) → (k if b) ≡ 0 → b ≡ false
+-- the test of a single check that passes is false, and a false test passes
+pub passes : (k : ℕ) (b : Bool) → T (ltb 0 k) → firstOf ((k if b) ∷ []) ≡ 0 → b ≡ false
 passes k false t e = refl
 passes zero true t e = absurd t
 passes (suc k) true t e = absurd (omega (arith, e))
 
-pub passing : (k : ℕ) (b : Bool) → b ≡ false → (k if b) ≡ 0
+pub passing : (k : ℕ) (b : Bool) → b ≡ false → firstOf ((k if b) ∷ []) ≡ 0
 passing k b e = rw e
 
 pub either-false : (a b : Bool) → a || b ≡ false → (a ≡ false) × (b ≡ false)
@@ -52,36 +39,56 @@ either-false true b e = absurd (yes e)
     yes : true ≡ false → ⊥
     yes e = let z : _≡_ {A = ℕ} 0 1 = cc in omega arith
 
-pub within : (most x : ℕ) → outside most x ≡ false → (0 < x) × (x ≤ most)
-within most x e = let p = either-false (ltb x 1) (ltb most x) e in (ltb-false x 1 (p .0), ltb-false most x (p .1))
+pub neither : (a b : Bool) → a ≡ false → b ≡ false → a || b ≡ false
+neither a b p q = rw (p, q)
+
+-- a number within its range, and a length as it is wanted
+pub within : (k most x : ℕ) → T (ltb 0 k) → firstOf ((k if outside most x) ∷ []) ≡ 0 → (0 < x) × (x ≤ most)
+within k most x t e = let p = either-false (ltb x 1) (ltb most x) (passes k _ t e) in (ltb-false x 1 (p .0), ltb-false most x (p .1))
+
+pub is-within : (k most x : ℕ) → 0 < x → x ≤ most → firstOf ((k if outside most x) ∷ []) ≡ 0
+is-within k most x a b = passing k _ (neither _ _ (le-ltb x 1 a) (le-ltb most x b))
 
 pub like : (a b : ℕ) → unlike a b ≡ false → a ≡ b
 like a b e = eqb-true a b (not-false (eqb a b) e)
 
+pub alike : (a b : ℕ) → a ≡ b → unlike a b ≡ false
+alike a b e = simp (eq-eqb a b e)
+
+pub fits : (k a b : ℕ) → T (ltb 0 k) → firstOf ((k if unlike a b) ∷ []) ≡ 0 → a ≡ b
+fits k a b t e = like a b (passes k _ t e)
+
+pub is-fit : (k a b : ℕ) → a ≡ b → firstOf ((k if unlike a b) ∷ []) ≡ 0
+is-fit k a b e = passing k _ (alike a b e)
+
 -- ---- mode and size
 
-pub known-mode : (mode : ℕ) → modeNumber (modeAnswer mode) ≡ 0 → mode ≤ 2
+pub known-mode : (mode : ℕ) → firstOf (modeCheck mode) ≡ 0 → mode ≤ 2
 known-mode mode e = case (decLe mode 2)
   where
     case : Dec (mode ≤ 2) → mode ≤ 2
     case (yes h) = h
     case (no n) = let f = rw (lt-leb mode 2 (omega (arith, n))) at e in absurd (omega (arith, f))
 
-pub mode-known : (mode : ℕ) → mode ≤ 2 → modeNumber (modeAnswer mode) ≡ 0
+pub mode-known : (mode : ℕ) → mode ≤ 2 → firstOf (modeCheck mode) ≡ 0
 mode-known mode h = simp (le-leb mode 2 h)
 
-pub shaped : (mode : ℕ) (size : Size) → firstOf (shapeChecks mode size) ≡ 0 → Shape mode size
-shaped mode size e =
-    let p = all-pass (shapeChecks mode size) e in
-    let w = within 525 (size .width .0) (passes 2 _ tt (p .1 .0)) in
-    let h = within 413 (size .height .0) (passes 3 _ tt (p .1 .1 .0)) in
-    record { known = known-mode mode (p .0); sized = record { wide = w .0; most-wide = w .1; tall = h .0; most-tall = h .1 } }
+pub sized : (size : Size) → firstOf (sizeChecks size) ≡ 0 → Sized size
+sized size e =
+    let (w, h) = both-pass (widthCheck size) (heightCheck size) e in
+    let (wide, most-wide) = within widthRange 525 (size .width .0) tt w in
+    let (tall, most-tall) = within heightRange 413 (size .height .0) tt h in
+    record { wide = wide; most-wide = most-wide; tall = tall; most-tall = most-tall }
 
-pub shape-passes : {mode : ℕ} {size : Size} → Shape mode size → AllPass (shapeChecks mode size)
-shape-passes {mode} {size} f =
-    let z = f .sized in
-    let inside : (k most x : ℕ) → 1 ≤ x → x ≤ most → (k if outside most x) ≡ 0 = λ k most x a b. simp (le-ltb x 1 a, le-ltb most x b) in
-    (mode-known mode (f .known), (inside 2 525 _ (z .wide) (z .most-wide), (inside 3 413 _ (z .tall) (z .most-tall), tt)))
+pub size-passes : {size : Size} → Sized size → firstOf (sizeChecks size) ≡ 0
+size-passes {size} s =
+    pass-both (widthCheck size) (heightCheck size) (is-within widthRange 525 (size .width .0) (s .wide) (s .most-wide)) (is-within heightRange 413 (size .height .0) (s .tall) (s .most-tall))
+
+pub shaped : (mode : ℕ) (size : Size) → firstOf (shapeChecks mode size) ≡ 0 → Shape mode size
+shaped mode size e = let (m, s) = both-pass (modeCheck mode) (sizeChecks size) e in record { known = known-mode mode m; sized = sized size s }
+
+pub shape-passes : {mode : ℕ} {size : Size} → Shape mode size → firstOf (shapeChecks mode size) ≡ 0
+shape-passes {mode} {size} f = pass-both (modeCheck mode) (sizeChecks size) (mode-known mode (f .known)) (size-passes (f .sized))
 
 -- a picture has at most 525 * 413 macroblocks
 pub few : (W H : ℕ) → W ≤ 525 → H ≤ 413 → W * H ≤ 216825
@@ -94,13 +101,23 @@ few-macroblocks {size} s = few (size .width .0) (size .height .0) (s .most-wide)
 
 pub low-fits : (n : ℕ) (dc low : List ℤ) → firstOf (lowChecks n dc low) ≡ 0 → (length dc ≡ n) × (length low ≡ 15 * n)
 low-fits n dc low e =
-    let p = all-pass (lowChecks n dc low) e in
-    (like (length dc) n (passes 4 _ tt (p .0)), like (length low) (15 * n) (passes 5 _ tt (p .1 .0)))
+    let (d, l) = both-pass (dcCheck n dc) (lowCheck n low) e in
+    (fits dcLength (length dc) n tt d, fits lowPassLength (length low) (15 * n) tt l)
 
 pub planes-fit : (n : ℕ) (s : Planes) → firstOf (planeChecks n s) ≡ 0 → Lengths n s
 planes-fit n s e =
-    let p = all-pass (planeChecks n s) e in
-    record { dc = like _ _ (passes 4 _ tt (p .0)); low = like _ _ (passes 5 _ tt (p .1 .0)); high = like _ _ (passes 6 _ tt (p .1 .1 .0)) }
+    let (l, h) = both-pass (lowChecks n (s .dc) (s .low)) (highCheck n (s .high)) e in
+    let (dc, low) = low-fits n (s .dc) (s .low) l in
+    record { dc = dc; low = low; high = fits highPassLength (length (s .high)) (240 * n) tt h }
+
+pub fits-planes : (n : ℕ) (s : Planes) → Lengths n s → firstOf (planeChecks n s) ≡ 0
+fits-planes n s f =
+    pass-both (lowChecks n (s .dc) (s .low)) (highCheck n (s .high))
+    (pass-both (dcCheck n (s .dc)) (lowCheck n (s .low)) (is-fit dcLength (length (s .dc)) n (f .dc)) (is-fit lowPassLength (length (s .low)) (15 * n) (f .low)))
+    (is-fit highPassLength (length (s .high)) (240 * n) (f .high))
+
+pub samples-fit : (n : ℕ) (samples : List ℤ) → firstOf (sampleCheck n samples) ≡ 0 → length samples ≡ 256 * n
+samples-fit n samples e = fits samplesLength (length samples) (256 * n) tt e
 
 -- ---- what checks answer
 
@@ -112,16 +129,23 @@ pub refused : (k mode j : ℕ) → Refused j ≡ checked k mode → (j ≡ k) ×
 refused zero mode j e = absurd (let z : _≡_ {A = ℕ} 0 1 = cc in omega arith)
 refused (suc k) mode j e = let f : j ≡ suc k = cc in (f, λ z. omega (arith, f, z))
 
+-- an answer whose number is k is that of k
+pub answers : {r : Checked} {k : ℕ} (mode : ℕ) → (checkedNumber r ≡ k) × (r ≡ checked (checkedNumber r) mode) → r ≡ checked k mode
+answers {r} {k} mode e = e .1 ∙ ap (λ (j : ℕ). checked j mode) (e .0)
+
 -- the answer of checks of mode and size, by what the mode's number chooses
-abbrev shapeAnswer : ℕ → Size → ModeAnswer → Checked
-shapeAnswer mode size a = checked (firstOf (modeNumber a ∷ (2 if outside 525 (size .width .0)) ∷ (3 if outside 413 (size .height .0)) ∷ [])) mode
+abbrev shapeNumber : Size → ModeAnswer → ℕ
+shapeNumber size a = firstOf ((modeNumber a ∷ []) ++ sizeChecks size)
 
-pub unknown-mode : (mode : ℕ) (size : Size) → Unknown ≡ modeAnswer mode → Refused 1 ≡ checked (firstOf (shapeChecks mode size)) mode
-unknown-mode mode size e = ap (shapeAnswer mode size) e
+pub unknown-mode : (mode : ℕ) (size : Size) → Unknown ≡ modeAnswer mode → modeRange ≡ firstOf (shapeChecks mode size)
+unknown-mode mode size e = ap (shapeNumber size) e
 
-pub known-shape : (mode : ℕ) (size : Size) (m : Mode) → Known m ≡ modeAnswer mode → (k : ℕ)
-    → firstOf ((2 if outside 525 (size .width .0)) ∷ (3 if outside 413 (size .height .0)) ∷ []) ≡ k → checked k mode ≡ checked (firstOf (shapeChecks mode size)) mode
-known-shape mode size m e k f = ap (λ (j : ℕ). checked j mode) (sym f) ∙ ap (shapeAnswer mode size) e
+pub known-shape : (mode : ℕ) (size : Size) (m : Mode) → Known m ≡ modeAnswer mode → {k : ℕ} → k ≡ firstOf (sizeChecks size) → k ≡ firstOf (shapeChecks mode size)
+known-shape mode size m e f = f ∙ ap (shapeNumber size) e
+
+pub refused-is : (k mode : ℕ) → (k ≡ 0 → ⊥) → Refused k ≡ checked k mode
+refused-is zero mode h = absurd (h refl)
+refused-is (suc k) mode h = refl
 
 pub chosen : (mode : ℕ) (m : Mode) → Known m ≡ modeAnswer mode → m ≡ modeOf mode
 chosen mode m e = case (decLe mode 2)

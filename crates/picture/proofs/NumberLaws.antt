@@ -1,6 +1,6 @@
--- The first check of two lists is that of the first list, or, where that passes, that of the second: by cases on each check's number.
+-- Checks one list after another: the first that fails is that of the first list or, where all of that pass, that of the second. By cases on each check's number.
 use Prim.Native.Nat.{ℕ, zero, suc}
-use mathlib.Core.Path.{_≡_, refl}
+use mathlib.Core.Path.{_≡_, refl, _∙_}
 use mathlib.Core.List.{List, [], _∷_, _++_}
 use native.Mathlib.Omega.{arith}
 use Rattle.picture.specs.Numbers.{firstOf, settled}
@@ -14,6 +14,20 @@ pub passed-first : (xs ys : List ℕ) {k : ℕ} → k ≡ firstOf xs → k ≡ 0
 passed-first [] ys e h = refl
 passed-first (zero ∷ xs) ys e h = passed-first xs ys e h
 passed-first (suc k ∷ xs) ys e h = absurd (omega (arith, e, h))
+
+-- checks pass together if and only if those of each list do
+pub both-pass : (xs ys : List ℕ) → firstOf (xs ++ ys) ≡ 0 → (firstOf xs ≡ 0) × (firstOf ys ≡ 0)
+both-pass [] ys e = (refl, e)
+both-pass (zero ∷ xs) ys e = both-pass xs ys e
+both-pass (suc k ∷ xs) ys e = absurd (omega (arith, e))
+
+pub pass-both : (xs ys : List ℕ) → firstOf xs ≡ 0 → firstOf ys ≡ 0 → firstOf (xs ++ ys) ≡ 0
+pass-both xs ys e f = passed-first xs ys refl e ∙ f
+
+pub last-passed : (xs ys : List ℕ) → firstOf ys ≡ 0 → firstOf (xs ++ ys) ≡ firstOf xs
+last-passed [] ys e = e
+last-passed (zero ∷ xs) ys e = last-passed xs ys e
+last-passed (suc k ∷ xs) ys e = refl
 
 -- what is settled by a number that is 0, and by one that is not
 pub settled-done : {A : Type 0} (k : ℕ) (x y : A) → k ≡ 0 → settled k x y ≡ x

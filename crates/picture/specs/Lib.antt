@@ -1,3 +1,4 @@
+pub mod Refusals
 pub mod Sizes
 pub mod Modes
 pub mod Table

@@ -7,6 +7,7 @@ use Rattle.picture.specs.declared.mode.ModeAnswer.{ModeAnswer}
 use Rattle.picture.specs.declared.mode.ModeAnswer.the-variants.{Known, Unknown}
 use Rattle.picture.specs.declared.checks.Checked.{Checked}
 use Rattle.picture.specs.declared.checks.Checked.the-variants.{Ready, Refused}
+use Rattle.picture.specs.Refusals.{modeRange}
 
 -- mode 0 filters no level, mode 1 only level two, mode 2 both
 abbrev pub filtersOne : ℕ → Bool
@@ -28,9 +29,14 @@ modeAnswer mode = choose (leb mode 2) mode
 -- the number of 01 for each answer
 abbrev pub modeNumber : ModeAnswer → ℕ
 modeNumber (Known m) = 0
-modeNumber Unknown = 1
+modeNumber Unknown = modeRange
 
--- what checks answer whose number is this: the mode where all pass, and else the number
+-- the number of 01 for each answer of checks
+abbrev pub checkedNumber : Checked → ℕ
+checkedNumber (Ready m) = 0
+checkedNumber (Refused k) = k
+
+-- and the answer of each number: the mode where it is 0, and else the number
 abbrev pub checked : ℕ → ℕ → Checked
 checked zero mode = Ready (modeOf mode)
 checked (suc k) mode = Refused (suc k)

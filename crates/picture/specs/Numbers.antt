@@ -7,6 +7,7 @@ use lib.IntN.{ℤ}
 use lib.ListN.{length}
 use Rattle.picture.specs.declared.size.Size.{Size}
 use Rattle.picture.specs.Sizes.{macroblocks}
+use Rattle.picture.specs.Refusals.{widthRange, heightRange, dcLength, lowPassLength, highPassLength, samplesLength, viewLength}
 use Rattle.picture.specs.Modes.{modeAnswer, modeNumber}
 use Rattle.picture.specs.Planes.{Planes}
 
@@ -30,28 +31,46 @@ settled (suc k) result was = was
 abbrev pub outside : ℕ → ℕ → Bool
 outside most x = ltb x 1 || ltb most x
 
--- 1: mode above 2. 2: W outside 1 to 525. 3: H outside 1 to 413
-abbrev pub shapeChecks : ℕ → Size → List ℕ
-shapeChecks mode size = modeNumber (modeAnswer mode) ∷ (2 if outside 525 (size .width .0)) ∷ (3 if outside 413 (size .height .0)) ∷ []
+-- mode and size
+abbrev pub modeCheck : ℕ → List ℕ
+modeCheck mode = modeNumber (modeAnswer mode) ∷ []
 
+abbrev pub widthCheck : Size → List ℕ
+widthCheck size = (widthRange if outside 525 (size .width .0)) ∷ []
+
+abbrev pub heightCheck : Size → List ℕ
+heightCheck size = (heightRange if outside 413 (size .height .0)) ∷ []
+
+abbrev pub sizeChecks : Size → List ℕ
+sizeChecks size = widthCheck size ++ heightCheck size
+
+abbrev pub shapeChecks : ℕ → Size → List ℕ
+shapeChecks mode size = modeCheck mode ++ sizeChecks size
+
+-- lengths of slices, for n macroblocks
 abbrev pub unlike : ℕ → ℕ → Bool
 unlike length wanted = not (eqb length wanted)
 
--- lengths of slices, for n macroblocks: 4: DC. 5: low-pass. 6: high-pass. 7: samples. 8: quarter view
-abbrev pub lowChecks : ℕ → List ℤ → List ℤ → List ℕ
-lowChecks n dc low = (4 if unlike (length dc) n) ∷ (5 if unlike (length low) (15 * n)) ∷ []
+abbrev pub dcCheck : ℕ → List ℤ → List ℕ
+dcCheck n dc = (dcLength if unlike (length dc) n) ∷ []
+
+abbrev pub lowCheck : ℕ → List ℤ → List ℕ
+lowCheck n low = (lowPassLength if unlike (length low) (15 * n)) ∷ []
 
 abbrev pub highCheck : ℕ → List ℤ → List ℕ
-highCheck n high = (6 if unlike (length high) (240 * n)) ∷ []
+highCheck n high = (highPassLength if unlike (length high) (240 * n)) ∷ []
+
+abbrev pub lowChecks : ℕ → List ℤ → List ℤ → List ℕ
+lowChecks n dc low = dcCheck n dc ++ lowCheck n low
 
 abbrev pub planeChecks : ℕ → Planes → List ℕ
 planeChecks n s = lowChecks n (s .dc) (s .low) ++ highCheck n (s .high)
 
 abbrev pub sampleCheck : ℕ → List ℤ → List ℕ
-sampleCheck n samples = (7 if unlike (length samples) (256 * n)) ∷ []
+sampleCheck n samples = (samplesLength if unlike (length samples) (256 * n)) ∷ []
 
 abbrev pub viewCheck : ℕ → List ℤ → List ℕ
-viewCheck n view = (8 if unlike (length view) (16 * n)) ∷ []
+viewCheck n view = (viewLength if unlike (length view) (16 * n)) ∷ []
 
 -- Inverse: 1 to 7
 unfoldable pub inverseNumber : ℕ → Size → Planes → List ℤ → ℕ

@@ -1,4 +1,5 @@
-// Counts of macroblocks, blocks and samples along one direction. A macroblock is 4 blocks across and a block 4 samples.
+// Counts that carry their unit: macroblocks, blocks and samples along one direction, and the macroblocks of a whole picture. A macroblock is 4 blocks
+// across and a block 4 samples, so the conversions by 4 are those of a direction; an area has none.
 ghost use mathlib.Core.Path.{_≡_};
 ghost use Prim.Native.Nat.{_*_, _≤_};
 
@@ -8,6 +9,9 @@ pub struct Macroblocks(pub u32);
 pub struct Blocks(pub u32);
 
 pub struct Samples(pub u32);
+
+// n, the macroblocks of a picture.
+pub struct Area(pub u32);
 
 impl Macroblocks {
     pub fn blocks(self) -> Blocks

@@ -2,6 +2,7 @@
 ghost use mathlib.Core.Path.{_≡_};
 ghost use Prim.Native.Nat.{_*_, _≤_};
 ghost use Rattle.picture.specs.Sizes.{Sized, macroblocks};
+use crate::counts::Area;
 use crate::counts::Blocks;
 use crate::counts::Macroblocks;
 use crate::counts::Samples;
@@ -23,14 +24,13 @@ pub struct SampleSize {
 }
 
 impl Size {
-    // n: the macroblocks of the whole picture.
-    pub fn macroblocks(self) -> Macroblocks
+    pub fn macroblocks(self) -> Area
         requires { ⌜ Sized self ⌝ }
         ensures { λ r. ⌜ (r .0 ≡ macroblocks self) × (r .0 ≤ 216825) ⌝ }
     {
         let width = self.width.0;
         let height = self.height.0;
-        Macroblocks(width * height)
+        Area(width * height)
     }
 
     pub fn blocks(self) -> BlockSize

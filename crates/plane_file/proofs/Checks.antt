@@ -1,4 +1,4 @@
--- What checks that pass tell: each in turn is 0, so its test is false; and the answer of a header by its number.
+-- What the checks of a header, of load and of save tell where they pass; and the answer of a header by its number.
 use Prim.Native.Nat.{ℕ, zero, suc, _+_, _*_, _≤_}
 use mathlib.Core.Path.{_≡_, refl, sym, ap, _∙_}
 use mathlib.Core.Bool.{Bool, true, false, _||_}
@@ -9,100 +9,74 @@ use borrow.Author.Tests.{ltb-false, le-ltb, eq-eqb, ne-eqb}
 use Rattle.picture.specs.declared.size.Size.{Size}
 use Rattle.picture.specs.Sizes.{Sized, macroblocks, Shape}
 use Rattle.picture.specs.Planes.{Planes, Lengths}
+use Rattle.picture.specs.Refusals.{fileTooShort, lastWord, offsets, fileLength}
 use Rattle.picture.specs.Numbers.{_if_, firstOf, settled, unlike, shapeChecks, planeChecks}
-use Rattle.picture.proofs.CheckLaws.{all-pass, pass-all, passes, passing, either-false, like, shaped, shape-passes, planes-fit}
-use Rattle.picture.proofs.NumberLaws.{refused-first, passed-first, settled-done, settled-refused}
+use Rattle.picture.proofs.CheckLaws.{passes, passing, either-false, neither, like, alike, fits, is-fit, shaped, shape-passes, fits-planes}
+use Rattle.picture.proofs.NumberLaws.{refused-first, passed-first, both-pass, pass-both, settled-done, settled-refused}
 use Rattle.plane_file.specs.declared.header.Header.{Header}
 use Rattle.plane_file.specs.declared.header.Words.{Words}
-use Rattle.plane_file.specs.Words.{wordAt}
-use Rattle.plane_file.specs.Header.{wordsOf, sizeOf, sizeIn, headerOf, answer}
+use Rattle.plane_file.specs.Header.{wordsOf, sizeOf, modeIn, sizeIn, headerOf, answer}
 use Rattle.plane_file.specs.Layout.{headerBytes, dcOffset, lowOffset, highOffset, total}
-use Rattle.plane_file.specs.Numbers.{misplaced, layoutChecks, wordChecks, startChecks, totalCheck, countIn, headerChecks, headerNumber, saveNumber}
+use Rattle.plane_file.specs.Numbers.{misplaced, lastCheck, offsetsCheck, layoutChecks, wordChecks, shortCheck, startChecks, totalCheck, countIn, headerNumber, saveNumber}
 
-pub first-zero : (xs ys : List ℕ) → firstOf (xs ++ ys) ≡ 0 → firstOf xs ≡ 0
-first-zero [] ys e = refl
-first-zero (zero ∷ xs) ys e = first-zero xs ys e
-first-zero (suc k ∷ xs) ys e = e
-
+-- a header's words as its checks let them through, in bytes of the length that they say
 pub record HeaderFits (bytes : List ℕ) : Type 0 where
   pub enough : headerBytes ≤ length bytes
-  pub shape : Shape (wordAt bytes 0) (sizeIn bytes)
-  pub last : wordAt bytes 28 ≡ 0
-  pub dc : wordAt bytes 12 ≡ dcOffset
-  pub low : wordAt bytes 16 ≡ lowOffset (countIn bytes)
-  pub high : wordAt bytes 20 ≡ highOffset (countIn bytes)
-  pub end : wordAt bytes 24 ≡ total (countIn bytes)
+  pub shape : Shape (modeIn bytes) (sizeIn bytes)
+  pub last : wordsOf bytes .last ≡ 0
+  pub dc : wordsOf bytes .dc ≡ dcOffset
+  pub low : wordsOf bytes .low ≡ lowOffset (countIn bytes)
+  pub high : wordsOf bytes .high ≡ highOffset (countIn bytes)
+  pub end : wordsOf bytes .total ≡ total (countIn bytes)
   pub whole : length bytes ≡ total (countIn bytes)
 
--- mode and size, where the checks of a header's start pass, whatever checks follow
-pub start-shape : (bytes more : List ℕ) → firstOf (startChecks bytes ++ more) ≡ 0 → Shape (wordAt bytes 0) (sizeIn bytes)
+-- the checks of the words, where those of a header's start pass, whatever checks follow
+words-pass : (bytes more : List ℕ) → firstOf (startChecks bytes ++ more) ≡ 0 → firstOf (wordChecks (wordsOf bytes)) ≡ 0
+words-pass bytes more e = both-pass (shortCheck bytes) (wordChecks (wordsOf bytes)) (both-pass (startChecks bytes) more e .0) .1
+
+pub start-shape : (bytes more : List ℕ) → firstOf (startChecks bytes ++ more) ≡ 0 → Shape (modeIn bytes) (sizeIn bytes)
 start-shape bytes more e =
-    let p = all-pass (startChecks bytes ++ more) e in
-    shaped (wordAt bytes 0) (sizeIn bytes) (pass-all (shapeChecks (wordAt bytes 0) (sizeIn bytes)) (p .1 .0, (p .1 .1 .0, (p .1 .1 .1 .0, tt))))
+    shaped (modeIn bytes) (sizeIn bytes) (both-pass (shapeChecks (modeIn bytes) (sizeIn bytes)) (layoutChecks (wordsOf bytes)) (words-pass bytes more e) .0)
 
 pub header-fits : (bytes : List ℕ) → headerNumber bytes ≡ 0 → HeaderFits bytes
 unfolding headerNumber
 header-fits bytes e =
-    let p = all-pass (headerChecks bytes) e in
-    let l = p .1 .1 .1 .1 in
-    let m = either-false _ _ (passes 11 _ tt (l .1 .0)) in
+    let more = totalCheck (countIn bytes) (length bytes) in
+    let (start, length-passes) = both-pass (startChecks bytes) more e in
+    let layout = both-pass (shapeChecks (modeIn bytes) (sizeIn bytes)) (layoutChecks (wordsOf bytes)) (words-pass bytes more e) .1 in
+    let (last, placed) = both-pass (lastCheck (wordsOf bytes)) (offsetsCheck (wordsOf bytes)) layout in
+    let m = either-false _ _ (passes offsets _ tt placed) in
     let h = either-false _ _ (m .0) in
     let d = either-false _ _ (h .0) in
     record {
-      enough = ltb-false (length bytes) headerBytes (passes 9 _ tt (p .0));
-      shape = start-shape bytes (totalCheck (countIn bytes) (length bytes)) e;
-      last = like (wordAt bytes 28) 0 (passes 10 _ tt (l .0));
-      dc = like (wordAt bytes 12) dcOffset (d .0);
-      low = like (wordAt bytes 16) (lowOffset (countIn bytes)) (d .1);
-      high = like (wordAt bytes 20) (highOffset (countIn bytes)) (h .1);
-      end = like (wordAt bytes 24) (total (countIn bytes)) (m .1);
-      whole = like (length bytes) (total (countIn bytes)) (passes 12 _ tt (l .1 .1 .0));
+      enough = ltb-false (length bytes) headerBytes (passes fileTooShort _ tt (both-pass (shortCheck bytes) (wordChecks (wordsOf bytes)) start .0));
+      shape = start-shape bytes more e;
+      last = fits lastWord (wordsOf bytes .last) 0 tt last;
+      dc = like (wordsOf bytes .dc) dcOffset (d .0);
+      low = like (wordsOf bytes .low) (lowOffset (countIn bytes)) (d .1);
+      high = like (wordsOf bytes .high) (highOffset (countIn bytes)) (h .1);
+      end = like (wordsOf bytes .total) (total (countIn bytes)) (m .1);
+      whole = fits fileLength (length bytes) (total (countIn bytes)) tt length-passes;
     }
 
 -- ---- and back
 
-same : (k a b : ℕ) → a ≡ b → (k if unlike a b) ≡ 0
-same k a b e = simp (eq-eqb a b e)
-
-alike : (a b : ℕ) → a ≡ b → unlike a b ≡ false
-alike a b e = simp (eq-eqb a b e)
-
-neither : (a b : Bool) → a ≡ false → b ≡ false → a || b ≡ false
-neither a b p q = rw (p, q)
-
-pub fits-planes : (n : ℕ) (s : Planes) → Lengths n s → firstOf (planeChecks n s) ≡ 0
-fits-planes n s f = pass-all (planeChecks n s) (same 4 _ n (f .dc), (same 5 _ (15 * n) (f .low), (same 6 _ (240 * n) (f .high), tt)))
-
 pub fits-save : (mode : ℕ) (size : Size) (s : Planes) (bytes : List ℕ) → Shape mode size → Lengths (macroblocks size) s → length bytes ≡ total (macroblocks size) → saveNumber mode size s bytes ≡ 0
 unfolding saveNumber
 fits-save mode size s bytes f l w =
-    let t = shape-passes f in
-    pass-all (shapeChecks mode size ++ planeChecks (macroblocks size) s ++ totalCheck (macroblocks size) (length bytes))
-    (t .0, (t .1 .0, (t .1 .1 .0, (same 4 _ _ (l .dc), (same 5 _ _ (l .low), (same 6 _ _ (l .high), (same 12 _ _ w, tt)))))))
+    let n = macroblocks size in
+    pass-both (shapeChecks mode size) (planeChecks n s ++ totalCheck n (length bytes)) (shape-passes f)
+    (pass-both (planeChecks n s) (totalCheck n (length bytes)) (fits-planes n s l) (is-fit fileLength (length bytes) (total n) w))
 
 pub fits-header : (bytes : List ℕ) → HeaderFits bytes → headerNumber bytes ≡ 0
 unfolding headerNumber
 fits-header bytes f =
-    let t = shape-passes (f .shape) in
-    pass-all (headerChecks bytes) (
-      simp (le-ltb (length bytes) headerBytes (f .enough)),
-      (
-        t .0,
-        (
-          t .1 .0,
-          (
-            t .1 .1 .0,
-            (
-              same 10 _ _ (f .last),
-              (
-                passing 11 _ (neither _ _ (neither _ _ (neither _ _ (alike _ _ (f .dc)) (alike _ _ (f .low))) (alike _ _ (f .high))) (alike _ _ (f .end))),
-                (same 12 _ _ (f .whole), tt),
-              ),
-            ),
-          ),
-        ),
-      ),
-    )
+    let w = wordsOf bytes in
+    let placed = neither _ _ (neither _ _ (neither _ _ (alike _ _ (f .dc)) (alike _ _ (f .low))) (alike _ _ (f .high))) (alike _ _ (f .end)) in
+    let layout = pass-both (lastCheck w) (offsetsCheck w) (is-fit lastWord (w .last) 0 (f .last)) (passing offsets _ placed) in
+    let words = pass-both (shapeChecks (modeIn bytes) (sizeIn bytes)) (layoutChecks w) (shape-passes (f .shape)) layout in
+    let start = pass-both (shortCheck bytes) (wordChecks w) (passing fileTooShort _ (le-ltb (length bytes) headerBytes (f .enough))) words in
+    pass-both (startChecks bytes) (totalCheck (countIn bytes) (length bytes)) start (is-fit fileLength (length bytes) (total (countIn bytes)) (f .whole))
 
 -- ---- single checks
 
@@ -111,10 +85,10 @@ pub offsets-right : (n : ℕ) (w : Words) → w .dc ≡ dcOffset → w .low ≡ 
 offsets-right n w a b c = simp (eq-eqb (w .dc) dcOffset a, eq-eqb (w .low) (lowOffset n) b, eq-eqb (w .high) (highOffset n) c)
 
 pub laid : (w : Words) {n : ℕ} {r : Bool} → w .last ≡ 0 → n ≡ macroblocks (sizeOf (w .width) (w .height)) → r ≡ misplaced n w
-    → firstOf (layoutChecks w) ≡ firstOf ((11 if r) ∷ [])
+    → firstOf (layoutChecks w) ≡ firstOf ((offsets if r) ∷ [])
 laid w h e m = rw (m, e) (simp (eq-eqb (w .last) 0 h))
 
-pub total-off : (n t bytes : ℕ) → t ≡ total n → (bytes ≡ t → ⊥) → 12 ≡ firstOf (totalCheck n bytes)
+pub total-off : (n t bytes : ℕ) → t ≡ total n → (bytes ≡ t → ⊥) → fileLength ≡ firstOf (totalCheck n bytes)
 total-off n t bytes e h = sym (simp (ne-eqb bytes (total n) (λ z. h (z ∙ sym e))))
 
 pub total-on : (n t bytes : ℕ) → t ≡ total n → bytes ≡ t → firstOf (totalCheck n bytes) ≡ 0
@@ -130,7 +104,7 @@ pub answer-refused : (k : ℕ) (bytes : List ℕ) → (k ≡ 0 → ⊥) → head
 answer-refused zero bytes h = absurd (h refl)
 answer-refused (suc k) bytes h = refl
 
-pub answer-done : (k : ℕ) (bytes : List ℕ) → k ≡ 0 → headerOf 0 (wordAt bytes 0) (sizeIn bytes) ≡ answer k bytes
+pub answer-done : (k : ℕ) (bytes : List ℕ) → k ≡ 0 → headerOf 0 (modeIn bytes) (sizeIn bytes) ≡ answer k bytes
 answer-done zero bytes e = refl
 answer-done (suc k) bytes e = absurd (omega (arith, e))
 
@@ -154,7 +128,7 @@ module _ (bytes : List ℕ) (xs : List ℕ) (r : Header) (e : r ≡ answer (firs
   next-done ys z q =
       e ∙ ap (λ (k : ℕ). answer k bytes) (number-of ∙ z ∙ sym q ∙ sym (passed-first xs ys refl (number-of ∙ z)))
 
-  pub read-done : r .number ≡ 0 → r ≡ headerOf 0 (wordAt bytes 0) (sizeIn bytes)
+  pub read-done : r .number ≡ 0 → r ≡ headerOf 0 (modeIn bytes) (sizeIn bytes)
   read-done z = e ∙ sym (answer-done (firstOf xs) bytes (number-of ∙ z))
 
   pub read-count : r .number ≡ 0 → macroblocks (r .size) ≡ countIn bytes

@@ -19,15 +19,15 @@ use Rattle.picture.specs.Numbers.{planeChecks}
 use Rattle.picture.specs.Planes.{Planes, PlanesOf, Lengths}
 use Rattle.picture.specs.Table.{table}
 use Rattle.picture.proofs.Table.{length-table, table-is, table-same}
-use Rattle.picture.proofs.NumberLaws.{passed-first, settled-done}
+use Rattle.picture.proofs.NumberLaws.{passed-first, both-pass, settled-done}
 use Rattle.plane_file.specs.Words.{word, words, numbers, wordAt, wordsAt, numberAt, numbersAt}
 use Rattle.plane_file.specs.Layout.{headerLength, headerBytes, dcOffset, lowOffset, highOffset, total, headerWords, header, file, planesIn}
 use Rattle.plane_file.specs.Numbers.{countIn, headerChecks, headerNumber, loadNumber}
-use Rattle.plane_file.specs.Header.{sizeIn}
+use Rattle.plane_file.specs.Header.{modeIn, sizeIn}
 use Rattle.plane_file.specs.Claims.{LoadUndoesSave, Bytes, Saves, SaveUndoesLoad}
 use Rattle.plane_file.proofs.Signs.{low-small, word-number, number-word}
-use Rattle.picture.proofs.CheckLaws.{few-macroblocks}
-use Rattle.plane_file.proofs.Checks.{HeaderFits, header-fits, fits-header, fits-planes, fits-save, first-zero, answer-done}
+use Rattle.picture.proofs.CheckLaws.{few-macroblocks, fits-planes}
+use Rattle.plane_file.proofs.Checks.{HeaderFits, header-fits, fits-header, fits-save, answer-done}
 use Rattle.plane_file.proofs.Parts.{numbers-length}
 use Rattle.plane_file.proofs.Written.{header-length}
 
@@ -175,7 +175,7 @@ unfolding loadNumber headerNumber
 load-undoes-save mode size shape s was fit lent =
     let f = file mode size s in
     let n = at-count mode size shape s fit in
-    let lengths : Lengths (countIn f) was = record { dc = lent .dc .len ∙ sym n; low = lent .low .len ∙ ap (λ (k : ℕ). 15 * k) (sym n); high = lent .high .len ∙ ap (λ (k : ℕ). 240 * k) (sym n) } in
+    let lengths : Lengths (countIn f) was = record { dc = lent .dc ∙ sym n; low = lent .low ∙ ap (λ (k : ℕ). 15 * k) (sym n); high = lent .high ∙ ap (λ (k : ℕ). 240 * k) (sym n) } in
     let head = fits-header f (saved-header mode size shape s fit) in
     let done : loadNumber f was ≡ 0 = passed-first (headerChecks f) (planeChecks (countIn f) was) refl head ∙ fits-planes (countIn f) was lengths in
     record {
@@ -261,19 +261,19 @@ module _ (b : List ℕ) (bytes : Bytes b) where
       q3 ∙ take-all (total n) b (omega (arith, f .whole))
 
 saves-back : (bytes : List ℕ) → Bytes bytes → HeaderFits bytes → (was : List ℕ) → length was ≡ length bytes
-    → (s : Planes) → s ≡ planesIn bytes (countIn bytes) → Saves (wordAt bytes 0) (sizeIn bytes) s was bytes
+    → (s : Planes) → s ≡ planesIn bytes (countIn bytes) → Saves (modeIn bytes) (sizeIn bytes) s was bytes
 unfolding numbersAt
 saves-back bytes small f was long s e =
     let lengths : Lengths (countIn bytes) s =
     rw e (record { dc = length-table _ _; low = length-table _ _; high = length-table _ _ }) in
-    let done = fits-save (wordAt bytes 0) (sizeIn bytes) s was (f .shape) lengths (long ∙ f .whole) in
+    let done = fits-save (modeIn bytes) (sizeIn bytes) s was (f .shape) lengths (long ∙ f .whole) in
     record {
       done = done;
-      writes = settled-done _ (file (wordAt bytes 0) (sizeIn bytes) s) was done ∙ rw e (file-of bytes small f);
+      writes = settled-done _ (file (modeIn bytes) (sizeIn bytes) s) was done ∙ rw e (file-of bytes small f);
     }
 
 pub save-undoes-load : SaveUndoesLoad
 unfolding loadNumber headerNumber
 save-undoes-load bytes small into e was long =
-    saves-back bytes small (header-fits bytes (first-zero (headerChecks bytes) (planeChecks (countIn bytes) into) e)) was long _
+    saves-back bytes small (header-fits bytes (both-pass (headerChecks bytes) (planeChecks (countIn bytes) into) e .0)) was long _
     (settled-done (loadNumber bytes into) (planesIn bytes (countIn bytes)) into e)

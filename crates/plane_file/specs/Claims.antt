@@ -4,10 +4,9 @@ use mathlib.Core.Path.{_≡_}
 use mathlib.Core.List.{List}
 use lib.ListN.{length, getD}
 use Rattle.picture.specs.declared.size.Size.{Size}
-use Rattle.picture.specs.Sizes.{Shape}
-use Rattle.picture.specs.Planes.{Planes, PlanesOf}
-use Rattle.plane_file.specs.Words.{wordAt}
-use Rattle.plane_file.specs.Header.{headerOf, sizeIn}
+use Rattle.picture.specs.Sizes.{Shape, macroblocks}
+use Rattle.picture.specs.Planes.{Planes, PlanesOf, Lengths}
+use Rattle.plane_file.specs.Header.{headerOf, modeIn, sizeIn}
 use Rattle.plane_file.specs.Layout.{file}
 use Rattle.plane_file.specs.Numbers.{loadNumber, saveNumber}
 use Rattle.plane_file.specs.Calls.{loadAnswer, loaded, saved}
@@ -17,10 +16,10 @@ pub record Loads (bytes : List ℕ) (was : Planes) (mode : ℕ) (size : Size) (s
   pub answer : loadAnswer bytes was ≡ headerOf 0 mode size
   pub planes : loaded bytes was ≡ s
 
--- a saved file loads, and gives back what was saved
+-- a saved file loads into planes of its lengths, and gives back what was saved
 abbrev pub LoadUndoesSave : Type 0
 LoadUndoesSave =
-    (mode : ℕ) (size : Size) → Shape mode size → (s was : Planes) → PlanesOf size s → PlanesOf size was
+    (mode : ℕ) (size : Size) → Shape mode size → (s was : Planes) → PlanesOf size s → Lengths (macroblocks size) was
     → Loads (file mode size s) was mode size s
 
 -- saving this mode, this size and these planes is done, and writes these bytes
@@ -37,4 +36,4 @@ abbrev pub SaveUndoesLoad : Type 0
 SaveUndoesLoad =
     (bytes : List ℕ) → Bytes bytes → (into : Planes) → loadNumber bytes into ≡ 0
     → (was : List ℕ) → length was ≡ length bytes
-    → Saves (wordAt bytes 0) (sizeIn bytes) (loaded bytes into) was bytes
+    → Saves (modeIn bytes) (sizeIn bytes) (loaded bytes into) was bytes

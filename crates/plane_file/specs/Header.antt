@@ -6,7 +6,7 @@ use Rattle.picture.specs.declared.size.Size.{Size}
 use Rattle.plane_file.specs.declared.header.Header.{Header}
 use Rattle.plane_file.specs.declared.header.Words.{Words}
 use Rattle.plane_file.specs.Layout.{headerLength}
-use Rattle.plane_file.specs.Words.{wordAt, wordsAt}
+use Rattle.plane_file.specs.Words.{wordsAt}
 
 -- a header's words by their names, in their order
 abbrev pub byName : List ℕ → Words
@@ -26,17 +26,20 @@ byName ws =
 abbrev pub wordsOf : List ℕ → Words
 wordsOf bytes = byName (wordsAt bytes 0 headerLength)
 
--- the size that they say
+-- the mode and the size that they say
+abbrev pub modeIn : List ℕ → ℕ
+modeIn bytes = wordsOf bytes .mode
+
 abbrev pub sizeOf : ℕ → ℕ → Size
 sizeOf W H = record { width = record { 0 = W }; height = record { 0 = H } }
 
 abbrev pub sizeIn : List ℕ → Size
-sizeIn bytes = sizeOf (wordAt bytes 4) (wordAt bytes 8)
+sizeIn bytes = sizeOf (wordsOf bytes .width) (wordsOf bytes .height)
 
 abbrev pub headerOf : ℕ → ℕ → Size → Header
 headerOf number mode size = record { number = number; mode = mode; size = size }
 
 -- done: mode and size; refused: zeros in their place
 abbrev pub answer : ℕ → List ℕ → Header
-answer zero bytes = headerOf 0 (wordAt bytes 0) (sizeIn bytes)
+answer zero bytes = headerOf 0 (modeIn bytes) (sizeIn bytes)
 answer (suc k) bytes = headerOf (suc k) 0 (sizeOf 0 0)

@@ -6,6 +6,7 @@ use lib.Dec.{ltb}
 use lib.ListN.{length}
 use Rattle.picture.specs.declared.size.Size.{Size}
 use Rattle.picture.specs.Sizes.{macroblocks}
+use Rattle.picture.specs.Refusals.{fileTooShort, lastWord, offsets, fileLength}
 use Rattle.picture.specs.Numbers.{_if_, firstOf, unlike, shapeChecks, planeChecks}
 use Rattle.picture.specs.Planes.{Planes}
 use Rattle.plane_file.specs.declared.header.Words.{Words}
@@ -16,21 +17,30 @@ use Rattle.plane_file.specs.Header.{sizeOf, sizeIn, wordsOf}
 abbrev pub misplaced : ℕ → Words → Bool
 misplaced n w = unlike (w .dc) dcOffset || unlike (w .low) (lowOffset n) || unlike (w .high) (highOffset n) || unlike (w .total) (total n)
 
--- 10: last word not zero. 11: an offset or the total
+abbrev pub lastCheck : Words → List ℕ
+lastCheck w = (lastWord if unlike (w .last) 0) ∷ []
+
+abbrev pub offsetsCheck : Words → List ℕ
+offsetsCheck w = (offsets if misplaced (macroblocks (sizeOf (w .width) (w .height))) w) ∷ []
+
 abbrev pub layoutChecks : Words → List ℕ
-layoutChecks w = (10 if unlike (w .last) 0) ∷ (11 if misplaced (macroblocks (sizeOf (w .width) (w .height))) w) ∷ []
+layoutChecks w = lastCheck w ++ offsetsCheck w
 
 -- of the words alone: 1, 2, 3, 10, 11
 abbrev pub wordChecks : Words → List ℕ
 wordChecks w = shapeChecks (w .mode) (sizeOf (w .width) (w .height)) ++ layoutChecks w
 
--- 9: fewer bytes than a header has; then the words
-abbrev pub startChecks : List ℕ → List ℕ
-startChecks bytes = (9 if ltb (length bytes) headerBytes) ∷ wordChecks (wordsOf bytes)
+-- fewer bytes than a header has
+abbrev pub shortCheck : List ℕ → List ℕ
+shortCheck bytes = (fileTooShort if ltb (length bytes) headerBytes) ∷ []
 
--- 12: not as many bytes as a file of n macroblocks has
+-- 9, and then the words
+abbrev pub startChecks : List ℕ → List ℕ
+startChecks bytes = shortCheck bytes ++ wordChecks (wordsOf bytes)
+
+-- not as many bytes as a file of n macroblocks has
 abbrev pub totalCheck : ℕ → ℕ → List ℕ
-totalCheck n bytes = (12 if unlike bytes (total n)) ∷ []
+totalCheck n bytes = (fileLength if unlike bytes (total n)) ∷ []
 
 -- W times H, as the header says them
 abbrev pub countIn : List ℕ → ℕ

@@ -13,7 +13,12 @@ use crate::layout::total_bytes;
 use crate::reader::read_words;
 use picture::checks::Checked;
 use picture::checks::check_shape;
+use picture::counts::Area;
 use picture::counts::Macroblocks;
+use picture::refusals::FILE_LENGTH;
+use picture::refusals::FILE_TOO_SHORT;
+use picture::refusals::LAST_WORD;
+use picture::refusals::OFFSETS;
 use picture::size::Size;
 
 // The words in their order; the last is to be zero.
@@ -77,7 +82,7 @@ pub fn refused(number: u32) -> Header
     }
 }
 
-fn misplaced(n: Macroblocks, w: Words) -> bool
+fn misplaced(n: Area, w: Words) -> bool
     requires { ⌜ n .0 ≤ 216825 ⌝ }
     ensures { λ r. ⌜ r ≡ isMisplaced (n .0) w ⌝ }
 {
@@ -103,10 +108,10 @@ pub fn check_words(w: Words) -> u32
         return number;
     }
     if w.last != 0 {
-        return 10;
+        return LAST_WORD;
     }
     if misplaced(size.macroblocks(), w) {
-        return 11;
+        return OFFSETS;
     }
     0
 }
@@ -116,7 +121,7 @@ pub fn read_start(bytes: &[u8]) -> Header
     ensures { λ r. ⌜ r ≡ answer (firstOf (startChecks (now (bytes .entry)))) (now (bytes .entry)) ⌝ }
 {
     if bytes.len() < HEADER_BYTES as usize {
-        return refused(9);
+        return refused(FILE_TOO_SHORT);
     }
     let w = named(read_words(bytes));
     let number = check_words(w);
@@ -141,7 +146,7 @@ pub fn read_header(bytes: &[u8]) -> Header
     }
     let size = start.size;
     if bytes.len() != total_bytes(size.macroblocks()) as usize {
-        return refused(12);
+        return refused(FILE_LENGTH);
     }
     start
 }

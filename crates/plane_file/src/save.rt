@@ -19,6 +19,7 @@ use crate::word::to_word;
 use picture::checks::Checked;
 use picture::checks::check_planes;
 use picture::checks::check_shape;
+use picture::refusals::FILE_LENGTH;
 use picture::size::Size;
 
 // Writes words one after another, from `at` on.
@@ -90,7 +91,7 @@ fn save_sized(mode: u32, size: Size, dc: &[i32], low: &[i32], high: &[i32], byte
         return refused;
     }
     if bytes.len() != total_bytes(n) as usize {
-        return 12;
+        return FILE_LENGTH;
     }
     save_file(mode, size, dc, low, high, bytes);
     0

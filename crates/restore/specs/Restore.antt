@@ -5,6 +5,7 @@ use mathlib.Core.List.{List, [], _∷_, _++_}
 use Rattle.picture.specs.declared.size.Size.{Size}
 use Rattle.picture.specs.Sizes.{macroblocks}
 use Rattle.picture.specs.Planes.{Planes}
+use Rattle.picture.specs.Refusals.{product}
 use Rattle.picture.specs.Numbers.{_if_, firstOf, shapeChecks}
 use Rattle.step_sizes.specs.Levels.{restored}
 use Rattle.bands.specs.declared.steps.Steps.{Steps}
@@ -18,9 +19,9 @@ restoredPlanes steps levels = byBands restored steps levels
 abbrev pub anyOutOf : Planes → Bool
 anyOutOf s = anyOut (s .dc) || (anyOut (s .low) || anyOut (s .high))
 
--- 15: a product outside the signed 32-bit range
+-- a product outside the signed 32-bit range
 abbrev pub rangeCheck : Steps → Planes → List ℕ
-rangeCheck steps levels = (15 if anyOutOf (restoredPlanes steps levels)) ∷ []
+rangeCheck steps levels = (product if anyOutOf (restoredPlanes steps levels)) ∷ []
 
 -- as for quantise, and 15 after the lengths
 abbrev pub restoreChecks : ℕ → Steps → Planes → Planes → List ℕ

@@ -12,6 +12,7 @@ use bands::steps::Steps;
 use bands::steps::check_bands;
 use picture::checks::Checked;
 use picture::checks::check_shape;
+use picture::refusals::PRODUCT;
 use picture::size::Size;
 
 // Whether a product of any band is outside the signed 32-bit range.
@@ -73,7 +74,7 @@ fn restore_sized(
         return number;
     }
     if products_leave_range(steps, dc_levels, low_levels, high_levels) {
-        return 15;
+        return PRODUCT;
     }
     restore_planes(steps, dc_levels, low_levels, high_levels, dc, low, high);
     0

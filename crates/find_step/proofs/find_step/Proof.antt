@@ -9,7 +9,7 @@ use Rattle.picture.specs.Sizes.{macroblocks}
 use Rattle.picture.specs.Planes.{Planes, planes}
 use Rattle.picture.specs.Numbers.{firstOf, shapeChecks, settled}
 use Rattle.picture.proofs.NumberLaws.{refused-first}
-use Rattle.picture.proofs.CheckLaws.{refused, ready, ready-number, ready-sized}
+use Rattle.picture.proofs.CheckLaws.{answers, refused, ready, ready-number, ready-sized}
 use Rattle.tries.specs.Tries.{triedPlanes, triedSamples, passes, triedPlanesBy, triedSamplesBy, passesBy}
 use Rattle.find_step.specs.FindStep.{IndexBeside, lengthChecks, findNumber}
 use Rattle.find_step.proofs.Checks.{refused-all}
@@ -35,7 +35,7 @@ find-sized-requires c κs =
     let k = c .before .before .before .before .before in
     let n = k .before .before in
     let s = n .before in
-    ready-sized (s .args .mode) (s .args .size) (rest s) (sym (k .known .given .1) ∙ n .check-shape .ensures)
+    ready-sized (s .args .mode) (s .args .size) (rest s) (sym (k .known .given .1) ∙ answers (n .before .args .mode) (n .check-shape .ensures))
 
 returns : tie.Need-returns
 unfolding findNumber
@@ -44,7 +44,7 @@ returns c =
     let n = k .before .before in
     let s = n .before in
     let a = s .args in
-    let j = refused (firstOf (shapeChecks (a .mode) (a .size))) (a .mode) _ (sym (k .number .given .1) ∙ n .check-shape .ensures) in
+    let j = refused (firstOf (shapeChecks (a .mode) (a .size))) (a .mode) _ (sym (k .number .given .1) ∙ answers (n .before .args .mode) (n .check-shape .ensures)) in
     let r = refused-all _ (passes (a .mode) (a .size) (a .samples .now) (a .tolerance)) (triedPlanes (a .mode) (a .size) (a .samples .now) 0) (was s) (triedSamples (a .mode) (a .size) (a .samples .now) 0) (a .second .now) (j .1) in
     (refused-first (shapeChecks (a .mode) (a .size)) (rest s) (j .0) (j .1), (r .index, (r .planes, r .samples)))
 
@@ -55,7 +55,7 @@ returns-2 c =
     let k = i .before .before .before .before .before .before in
     let n = k .before .before in
     let s = n .before in
-    let told = sym (k .known .given .1) ∙ n .check-shape .ensures in
+    let told = sym (k .known .given .1) ∙ answers (n .before .args .mode) (n .check-shape .ensures) in
     let e = i .find-sized .ensures in
     let m = ready (firstOf (shapeChecks (s .args .mode) (s .args .size))) (s .args .mode) _ told .1 in
     (ready-number (s .args .mode) (s .args .size) (rest s) told (e .0), subst (Promised s (i .find-sized .result .number) (i .find-sized .result .index) _ _) m (e .1))

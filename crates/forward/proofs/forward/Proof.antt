@@ -11,7 +11,7 @@ use Rattle.picture.specs.Planes.{Planes, planes}
 use Rattle.picture.specs.Numbers.{planeChecks, sampleCheck, forwardNumber}
 use Rattle.transform.specs.Transform.{forwardBy}
 use Rattle.transform.specs.Wraps.{forwardWrapsBy}
-use Rattle.picture.proofs.CheckLaws.{refused-call, ready-call, ready-sized}
+use Rattle.picture.proofs.CheckLaws.{answers, refused-call, ready-call, ready-sized}
 use Rattle.forward.proofs.forward.Statement.{statement}
 use Rattle.forward.proofs.forward.Tie as tie
 
@@ -33,7 +33,7 @@ forward-sized-requires c κs =
     let k = c .before .before .before .before in
     let n = k .before .before in
     let s = n .before in
-    ready-sized (s .args .mode) (s .args .size) (rest s) (sym (k .known .given .1) ∙ n .check-shape .ensures)
+    ready-sized (s .args .mode) (s .args .size) (rest s) (sym (k .known .given .1) ∙ answers (n .before .args .mode) (n .check-shape .ensures))
 
 returns : tie.Need-returns
 unfolding forwardNumber
@@ -41,7 +41,7 @@ returns c =
     let k = c .before .before in
     let n = k .before .before in
     let s = n .before in
-    let e = sym (k .number .given .1) ∙ n .check-shape .ensures in
+    let e = sym (k .number .given .1) ∙ answers (n .before .args .mode) (n .check-shape .ensures) in
     let law = refused-call (s .args .mode) (s .args .size) (rest s) (result s (modeOf (s .args .mode))) (was s) e in
     rw (c .refused .ensures .0, c .refused .ensures .1) (law .0, (refused-call (s .args .mode) (s .args .size) (rest s) (told s (modeOf (s .args .mode))) false e .1, law .1))
 
@@ -52,7 +52,7 @@ returns-2 c =
     let k = d .before .before .before .before .before in
     let n = k .before .before in
     let s = n .before in
-    let e = sym (k .known .given .1) ∙ n .check-shape .ensures in
+    let e = sym (k .known .given .1) ∙ answers (n .before .args .mode) (n .check-shape .ensures) in
     let a = d .forward-sized .ensures in
     let law = ready-call (s .args .mode) (s .args .size) (rest s) e (result s) (was s) (a .0) (a .1 .1) in
     (law .0, (ready-call (s .args .mode) (s .args .size) (rest s) e (told s) false (a .0) (a .1 .0) .1, law .1))

@@ -8,6 +8,7 @@ use lib.IntN.{ℤ}
 use lib.ListN.{length}
 use Rattle.picture.specs.Sizes.{macroblocks}
 use Rattle.picture.specs.Planes.{Planes, planes}
+use Rattle.picture.specs.Refusals.{samplesLength}
 use Rattle.picture.specs.Numbers.{firstOf, settled, planeChecks, sampleCheck}
 use Rattle.transform.specs.Transform.{inverseBy}
 use Rattle.transform.specs.Wraps.{inverseWrapsBy}
@@ -39,12 +40,12 @@ want c = ap (λ (k : ℕ). 256 * k) (c .before .macroblocks .ensures .0)
 module _ (s : tie.Start) {r : ℕ} (e : r ≡ firstOf (planeChecks (n s) (given s))) where
   before : (r ≡ 0 → ⊥) → (r ≡ firstOf (planeChecks (n s) (given s) ++ sampleCheck (n s) (s .args .samples .now))) × ((false ≡ settled r (told s) false) × (s .args .samples .now ≡ settled r (result s) (s .args .samples .now)))
   before h =
-      let law = refused-before (planeChecks (n s) (given s)) 7 (length (s .args .samples .now)) (256 * n s) (result s) (s .args .samples .now) e h in
-      (law .0, (refused-before (planeChecks (n s) (given s)) 7 (length (s .args .samples .now)) (256 * n s) (told s) false e h .1, law .1))
+      let law = refused-before (planeChecks (n s) (given s)) samplesLength (length (s .args .samples .now)) (256 * n s) (result s) (s .args .samples .now) e h in
+      (law .0, (refused-before (planeChecks (n s) (given s)) samplesLength (length (s .args .samples .now)) (256 * n s) (told s) false e h .1, law .1))
 
   last : r ≡ 0 → (length (s .args .samples .now) ≡ 256 * n s → ⊥)
-      → (7 ≡ firstOf (planeChecks (n s) (given s) ++ sampleCheck (n s) (s .args .samples .now))) × ((false ≡ settled 7 (told s) false) × (s .args .samples .now ≡ settled 7 (result s) (s .args .samples .now)))
-  last z h = let law = refused-length (planeChecks (n s) (given s)) 7 (length (s .args .samples .now)) (256 * n s) (result s) (s .args .samples .now) e tt z h in (law .0, (refl, law .1))
+      → (samplesLength ≡ firstOf (planeChecks (n s) (given s) ++ sampleCheck (n s) (s .args .samples .now))) × ((false ≡ settled samplesLength (told s) false) × (s .args .samples .now ≡ settled samplesLength (result s) (s .args .samples .now)))
+  last z h = let law = refused-length (planeChecks (n s) (given s)) samplesLength (length (s .args .samples .now)) (256 * n s) (result s) (s .args .samples .now) e tt z h in (law .0, (refl, law .1))
 
 returns : tie.Need-returns
 returns c =
@@ -74,7 +75,7 @@ returns-3 c =
     let k = e .before in
     let s = k .before .before in
     rw (c .done .ensures .0, c .done .ensures .1)
-    (passed-length (planeChecks (n s) (given s)) 7 (length (s .args .samples .now)) (256 * n s) (result s) (s .args .samples .now) (number k) (e .if1 .left) (f .if2 .left ∙ want k), (d .inverse-told .ensures .1, d .inverse-told .ensures .0))
+    (passed-length (planeChecks (n s) (given s)) samplesLength (length (s .args .samples .now)) (256 * n s) (result s) (s .args .samples .now) (number k) (e .if1 .left) (f .if2 .left ∙ want k), (d .inverse-told .ensures .1, d .inverse-told .ensures .0))
 
 pub inverse-sized-spec : {M : Type 1} → statement M
 inverse-sized-spec =

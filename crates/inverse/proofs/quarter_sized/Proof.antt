@@ -7,6 +7,7 @@ use borrow.Author.Needs.{needs}
 use lib.IntN.{ℤ}
 use lib.ListN.{length}
 use Rattle.picture.specs.Sizes.{macroblocks}
+use Rattle.picture.specs.Refusals.{viewLength}
 use Rattle.picture.specs.Numbers.{firstOf, settled, lowChecks, viewCheck}
 use Rattle.transform.specs.Transform.{quarterBy}
 use Rattle.transform.specs.Wraps.{quarterWrapsBy}
@@ -37,12 +38,12 @@ want c = ap (λ (k : ℕ). 16 * k) (c .before .macroblocks .ensures .0)
 module _ (s : tie.Start) {r : ℕ} (e : r ≡ firstOf (low s (n s))) where
   before : (r ≡ 0 → ⊥) → (r ≡ firstOf (low s (n s) ++ viewCheck (n s) (s .args .view .now))) × ((false ≡ settled r (told s) false) × (s .args .view .now ≡ settled r (result s) (s .args .view .now)))
   before h =
-      let law = refused-before (low s (n s)) 8 (length (s .args .view .now)) (16 * n s) (result s) (s .args .view .now) e h in
-      (law .0, (refused-before (low s (n s)) 8 (length (s .args .view .now)) (16 * n s) (told s) false e h .1, law .1))
+      let law = refused-before (low s (n s)) viewLength (length (s .args .view .now)) (16 * n s) (result s) (s .args .view .now) e h in
+      (law .0, (refused-before (low s (n s)) viewLength (length (s .args .view .now)) (16 * n s) (told s) false e h .1, law .1))
 
   last : r ≡ 0 → (length (s .args .view .now) ≡ 16 * n s → ⊥)
-      → (8 ≡ firstOf (low s (n s) ++ viewCheck (n s) (s .args .view .now))) × ((false ≡ settled 8 (told s) false) × (s .args .view .now ≡ settled 8 (result s) (s .args .view .now)))
-  last z h = let law = refused-length (low s (n s)) 8 (length (s .args .view .now)) (16 * n s) (result s) (s .args .view .now) e tt z h in (law .0, (refl, law .1))
+      → (viewLength ≡ firstOf (low s (n s) ++ viewCheck (n s) (s .args .view .now))) × ((false ≡ settled viewLength (told s) false) × (s .args .view .now ≡ settled viewLength (result s) (s .args .view .now)))
+  last z h = let law = refused-length (low s (n s)) viewLength (length (s .args .view .now)) (16 * n s) (result s) (s .args .view .now) e tt z h in (law .0, (refl, law .1))
 
 returns : tie.Need-returns
 returns c =
@@ -73,7 +74,7 @@ returns-3 c =
     let k = e .before in
     let s = k .before .before in
     rw (c .done .ensures .0, c .done .ensures .1)
-    (passed-length (low s (n s)) 8 (length (s .args .view .now)) (16 * n s) (result s) (s .args .view .now) (number k) (e .if1 .left) (f .if2 .left ∙ want k), (d .level-one-told .ensures .1, d .level-one-told .ensures .0))
+    (passed-length (low s (n s)) viewLength (length (s .args .view .now)) (16 * n s) (result s) (s .args .view .now) (number k) (e .if1 .left) (f .if2 .left ∙ want k), (d .level-one-told .ensures .1, d .level-one-told .ensures .0))
 
 pub quarter-sized-spec : {M : Type 1} → statement M
 quarter-sized-spec =

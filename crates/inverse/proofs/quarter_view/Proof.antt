@@ -11,7 +11,7 @@ use Rattle.picture.specs.Modes.{modeOf}
 use Rattle.picture.specs.Numbers.{lowChecks, viewCheck, quarterNumber}
 use Rattle.transform.specs.Transform.{quarterBy}
 use Rattle.transform.specs.Wraps.{quarterWrapsBy}
-use Rattle.picture.proofs.CheckLaws.{refused-call, ready-call, ready-sized}
+use Rattle.picture.proofs.CheckLaws.{answers, refused-call, ready-call, ready-sized}
 use Rattle.inverse.proofs.quarter_view.Statement.{statement}
 use Rattle.inverse.proofs.quarter_view.Tie as tie
 
@@ -30,7 +30,7 @@ quarter-sized-requires c κs =
     let k = c .before .before in
     let n = k .before .before in
     let s = n .before in
-    ready-sized (s .args .mode) (s .args .size) (rest s) (sym (k .known .given .1) ∙ n .check-shape .ensures)
+    ready-sized (s .args .mode) (s .args .size) (rest s) (sym (k .known .given .1) ∙ answers (n .before .args .mode) (n .check-shape .ensures))
 
 returns : tie.Need-returns
 unfolding quarterNumber
@@ -38,7 +38,7 @@ returns c =
     let k = c .before .before in
     let n = k .before .before in
     let s = n .before in
-    let e = sym (k .number .given .1) ∙ n .check-shape .ensures in
+    let e = sym (k .number .given .1) ∙ answers (n .before .args .mode) (n .check-shape .ensures) in
     let law = refused-call (s .args .mode) (s .args .size) (rest s) (result s (modeOf (s .args .mode))) (s .args .view .now) e in
     rw (c .refused .ensures .0, c .refused .ensures .1) (law .0, (refused-call (s .args .mode) (s .args .size) (rest s) (told s (modeOf (s .args .mode))) false e .1, law .1))
 
@@ -49,7 +49,7 @@ returns-2 c =
     let k = d .before .before .before in
     let n = k .before .before in
     let s = n .before in
-    let e = sym (k .known .given .1) ∙ n .check-shape .ensures in
+    let e = sym (k .known .given .1) ∙ answers (n .before .args .mode) (n .check-shape .ensures) in
     let a = d .quarter-sized .ensures in
     let law = ready-call (s .args .mode) (s .args .size) (rest s) e (result s) (s .args .view .now) (a .0) (a .1 .1) in
     (law .0, (ready-call (s .args .mode) (s .args .size) (rest s) e (told s) false (a .0) (a .1 .0) .1, law .1))

@@ -5,7 +5,7 @@ use mathlib.Core.List.{List}
 use borrow.Author.Needs.{needs}
 use Rattle.picture.specs.Sizes.{macroblocks}
 use Rattle.picture.specs.Planes.{Planes, planes}
-use Rattle.picture.proofs.CheckLaws.{refused-call, ready-number, ready-sized}
+use Rattle.picture.proofs.CheckLaws.{answers, refused-call, ready-number, ready-sized}
 use Rattle.quantise.specs.Quantise.{quantisedPlanes, quantiseNumber}
 use Rattle.bands.specs.Numbers.{bandChecks}
 use Rattle.quantise.proofs.quantise.Statement.{statement}
@@ -26,7 +26,7 @@ quantise-sized-requires c κs =
     let k = c .before .before .before in
     let n = k .before .before in
     let s = n .before in
-    ready-sized (s .args .mode) (s .args .size) (rest s) (sym (k .enum-told .given .1) ∙ n .check-shape .ensures)
+    ready-sized (s .args .mode) (s .args .size) (rest s) (sym (k .enum-told .given .1) ∙ answers (n .before .args .mode) (n .check-shape .ensures))
 
 returns : tie.Need-returns
 unfolding quantiseNumber
@@ -34,7 +34,7 @@ returns c =
     let k = c .before in
     let n = k .before .before in
     let s = n .before in
-    refused-call (s .args .mode) (s .args .size) (rest s) (quantisedPlanes (s .args .steps) (read s)) (was s) (sym (k .number .given .1) ∙ n .check-shape .ensures)
+    refused-call (s .args .mode) (s .args .size) (rest s) (quantisedPlanes (s .args .steps) (read s)) (was s) (sym (k .number .given .1) ∙ answers (n .before .args .mode) (n .check-shape .ensures))
 
 returns-2 : tie.Need-returns-2
 unfolding quantiseNumber
@@ -43,7 +43,7 @@ returns-2 c =
     let k = d .before .before .before .before in
     let n = k .before .before in
     let s = n .before in
-    (ready-number (s .args .mode) (s .args .size) (rest s) (sym (k .enum-told .given .1) ∙ n .check-shape .ensures) (d .quantise-sized .ensures .0), d .quantise-sized .ensures .1)
+    (ready-number (s .args .mode) (s .args .size) (rest s) (sym (k .enum-told .given .1) ∙ answers (n .before .args .mode) (n .check-shape .ensures)) (d .quantise-sized .ensures .0), d .quantise-sized .ensures .1)
 
 pub quantise-spec : {M : Type 1} → statement M
 quantise-spec =

@@ -5,7 +5,7 @@ use mathlib.Core.List.{List}
 use borrow.Author.Needs.{needs}
 use Rattle.picture.specs.Sizes.{macroblocks}
 use Rattle.picture.specs.Planes.{Planes, planes}
-use Rattle.picture.proofs.CheckLaws.{refused-call, ready-number, ready-sized}
+use Rattle.picture.proofs.CheckLaws.{answers, refused-call, ready-number, ready-sized}
 use Rattle.restore.specs.Restore.{restoredPlanes, restoreChecks, restoreNumber}
 use Rattle.restore.proofs.restore.Statement.{statement}
 use Rattle.restore.proofs.restore.Tie as tie
@@ -25,7 +25,7 @@ restore-sized-requires c κs =
     let k = c .before .before .before in
     let n = k .before .before in
     let s = n .before in
-    ready-sized (s .args .mode) (s .args .size) (rest s) (sym (k .enum-told .given .1) ∙ n .check-shape .ensures)
+    ready-sized (s .args .mode) (s .args .size) (rest s) (sym (k .enum-told .given .1) ∙ answers (n .before .args .mode) (n .check-shape .ensures))
 
 returns : tie.Need-returns
 unfolding restoreNumber
@@ -33,7 +33,7 @@ returns c =
     let k = c .before in
     let n = k .before .before in
     let s = n .before in
-    refused-call (s .args .mode) (s .args .size) (rest s) (restoredPlanes (s .args .steps) (read s)) (was s) (sym (k .number .given .1) ∙ n .check-shape .ensures)
+    refused-call (s .args .mode) (s .args .size) (rest s) (restoredPlanes (s .args .steps) (read s)) (was s) (sym (k .number .given .1) ∙ answers (n .before .args .mode) (n .check-shape .ensures))
 
 returns-2 : tie.Need-returns-2
 unfolding restoreNumber
@@ -42,7 +42,7 @@ returns-2 c =
     let k = d .before .before .before .before in
     let n = k .before .before in
     let s = n .before in
-    (ready-number (s .args .mode) (s .args .size) (rest s) (sym (k .enum-told .given .1) ∙ n .check-shape .ensures) (d .restore-sized .ensures .0), d .restore-sized .ensures .1)
+    (ready-number (s .args .mode) (s .args .size) (rest s) (sym (k .enum-told .given .1) ∙ answers (n .before .args .mode) (n .check-shape .ensures)) (d .restore-sized .ensures .0), d .restore-sized .ensures .1)
 
 pub restore-spec : {M : Type 1} → statement M
 restore-spec =

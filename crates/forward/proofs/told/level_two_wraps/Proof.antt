@@ -30,20 +30,26 @@ returns c =
 
 returns-2 : tie.Need-returns-2
 returns-2 c =
-    let e = c .before .before .before in
+    let b = c .before .before .before in
+    let e = b .before in
     let f = e .before in
     let a = f .before .before in
-    filter-wraps (s a .args .filtered) (wide a) (tall a) (row a) (s a .pre .1 .1 .1) (sym (e .if2 .left) ∙ f .plane-cores-wrap .ensures) (c .filters-wrap-if .ensures)
+    let told = rw (b .blocks2 .ensures .0, b .blocks2 .ensures .1) at (c .filters-wrap-if .ensures) in
+    filter-wraps (s a .args .filtered) (wide a) (tall a) (row a) (s a .pre .1 .1 .1) (sym (e .if2 .left) ∙ f .plane-cores-wrap .ensures) told
 
 returns-3 : tie.Need-returns-3
 returns-3 c = let a = c .before in calm (s a .args .filtered) (wide a) (tall a) (a .any-large .ensures .0 (c .if1 .left))
 
 filters-requires : tie.Need-filters-wrap-if-requires
 filters-requires c κs =
-    let a = c .before .before .before .before .before in
-    (omega (arith, s a .pre .1 .0), (wide a, omega (arith, s a .pre .0), tall a, omega (arith, s a .pre .0)))
+    let b = c .before .before in
+    let a = b .before .before .before .before in
+    rw (b .blocks2 .ensures .0, b .blocks2 .ensures .1) (omega (arith, s a .pre .1 .0), (wide a, omega (arith, s a .pre .0), tall a, omega (arith, s a .pre .0)))
+
+blocks-requires : tie.Need-blocks-requires
+blocks-requires c κs = s (c .before .before .before) .pre .0
 
 pub level-two-wraps-spec : {M : Type 1} → statement M
 level-two-wraps-spec =
     tie.close
-    (tie.spec (λ c κs. search needs) (λ c κs. search needs) returns (λ c. search needs) (λ c. search needs) (λ c. search needs) (λ c. search needs) filters-requires returns-2 returns-3)
+    (tie.spec (λ c κs. search needs) (λ c κs. search needs) returns blocks-requires (λ c. search needs) (λ c. search needs) filters-requires returns-2 returns-3)

@@ -76,11 +76,13 @@ returns c =
 
 returns-2 : tie.Need-returns-2
 returns-2 c =
-    let e = c .before .before .before .before in
+    let k = c .before .before .before .before in
+    let e = k .before in
     let l = e .before .before .before in
-    let y = s l .pre in (
+    let y = s l .pre in
+    let told = rw (k .blocks2 .ensures .0, k .blocks2 .ensures .1) at (c .filters-wrap-if .ensures) in (
       l .level-two .ensures .0,
-      second-filter-wraps (s l .args .filtered) (y .0 .wide) (y .0 .tall) (view-row l) (row-as (b l .any-large2 .ensures .1) (y .1 .1)) (sym (e .if2 .left) ∙ cores-told l) (l .level-two .ensures .0) (c .filters-wrap-if .ensures),
+      second-filter-wraps (s l .args .filtered) (y .0 .wide) (y .0 .tall) (view-row l) (row-as (b l .any-large2 .ensures .1) (y .1 .1)) (sym (e .if2 .left) ∙ cores-told l) (l .level-two .ensures .0) told,
     )
 
 returns-3 : tie.Need-returns-3
@@ -91,12 +93,16 @@ returns-3 c =
 
 filters-requires : tie.Need-filters-wrap-if-requires
 filters-requires c κs =
-    let l = c .before .before .before .before .before .before in
+    let k = c .before .before .before in
+    let l = k .before .before .before .before in
     let y = s l .pre in
-    (omega (arith, l .level-two .kept .0, y .1 .0), (omega (arith, y .0 .wide), omega (arith, y .0), omega (arith, y .0 .tall), omega (arith, y .0)))
+    rw (k .blocks2 .ensures .0, k .blocks2 .ensures .1) (omega (arith, l .level-two .kept .0, y .1 .0), (omega (arith, y .0 .wide), omega (arith, y .0), omega (arith, y .0 .tall), omega (arith, y .0)))
+
+blocks-requires : tie.Need-blocks-requires
+blocks-requires c κs = s (c .before .before .before) .pre .0
 
 pub level-two-told-spec : {M : Type 1} → statement M
 level-two-told-spec =
     tie.close
     (tie.spec (λ c κs. search needs) (λ c. search needs) (λ c. search needs) (λ c. search needs) aggregate (λ c κs. search needs) (λ c κs. search needs) (λ c. search needs) aggregate-2 second-cores-requires (λ c κs. search needs)
-    (λ c. search needs) returns (λ c. search needs) (λ c. search needs) (λ c. search needs) (λ c. search needs) filters-requires (λ c. search needs) returns-2 (λ c. search needs) returns-3)
+    (λ c. search needs) returns blocks-requires (λ c. search needs) (λ c. search needs) filters-requires (λ c. search needs) returns-2 (λ c. search needs) returns-3)

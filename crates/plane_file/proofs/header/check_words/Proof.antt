@@ -7,8 +7,9 @@ use borrow.Author.Needs.{needs}
 use borrow.Author.Tests.{ne-eqb}
 use Rattle.picture.specs.declared.size.Size.{Size}
 use Rattle.picture.specs.Sizes.{macroblocks}
+use Rattle.picture.specs.Refusals.{offsets}
 use Rattle.picture.specs.Numbers.{_if_, firstOf, shapeChecks}
-use Rattle.picture.proofs.CheckLaws.{refused-call, ready-number, ready-sized}
+use Rattle.picture.proofs.CheckLaws.{answers, refused-call, ready-number, ready-sized}
 use Rattle.plane_file.specs.Numbers.{layoutChecks, wordChecks}
 use Rattle.plane_file.proofs.Checks.{laid}
 use Rattle.plane_file.proofs.header.check_words.Statement.{statement}
@@ -23,14 +24,14 @@ passed : {k : ℕ} (c : tie.After-enum-told) → let n = c .before .before in le
 passed c e =
     let n = c .before .before in
     let w = n .before .before .args .w in
-    by-words n (sym (ready-number (w .mode) (n .before .size .result) (layoutChecks w) (sym (c .enum-told .given .1) ∙ n .check-shape .ensures) e))
+    by-words n (sym (ready-number (w .mode) (n .before .size .result) (layoutChecks w) (sym (c .enum-told .given .1) ∙ answers (w .mode) (n .check-shape .ensures)) e))
 
 returns : tie.Need-returns
 returns c =
     let k = c .before in
     let n = k .before .before in
     let w = n .before .before .args .w in
-    by-words n (sym (refused-call (w .mode) (n .before .size .result) (layoutChecks w) w w (sym (k .shape .given .1) ∙ n .check-shape .ensures) .0))
+    by-words n (sym (refused-call (w .mode) (n .before .size .result) (layoutChecks w) w w (sym (k .shape .given .1) ∙ answers (w .mode) (n .check-shape .ensures)) .0))
 
 returns-2 : tie.Need-returns-2
 returns-2 c = passed (c .before .before) (simp (ne-eqb _ _ (c .if1 .taken)))
@@ -40,11 +41,11 @@ macroblocks-requires c κs =
     let k = c .before .before in
     let n = k .before .before in
     let w = n .before .before .args .w in
-    ready-sized (w .mode) (n .before .size .result) (layoutChecks w) (sym (k .enum-told .given .1) ∙ n .check-shape .ensures)
+    ready-sized (w .mode) (n .before .size .result) (layoutChecks w) (sym (k .enum-told .given .1) ∙ answers (w .mode) (n .check-shape .ensures))
 
 -- the checks of the layout, by whether an offset or the total is misplaced
 laid-out : (c : tie.After-misplaced) → let n = c .before .before .before .before .before .before in let w = n .before .before .args .w in
-    firstOf (layoutChecks w) ≡ firstOf ((11 if (c .misplaced .result)) ∷ [])
+    firstOf (layoutChecks w) ≡ firstOf ((offsets if (c .misplaced .result)) ∷ [])
 laid-out c =
     let m = c .before in
     let e = m .before in
@@ -52,10 +53,10 @@ laid-out c =
     laid (n .before .before .args .w) (e .if1 .left) (m .macroblocks .ensures .0 ∙ ap macroblocks (n .before .size .ensures)) (c .misplaced .ensures)
 
 returns-3 : tie.Need-returns-3
-returns-3 c = passed (c .before .before .before .before .before) (sym (laid-out (c .before) ∙ ap (λ (b : Bool). firstOf ((11 if b) ∷ [])) (c .if2 .taken)))
+returns-3 c = passed (c .before .before .before .before .before) (sym (laid-out (c .before) ∙ ap (λ (b : Bool). firstOf ((offsets if b) ∷ [])) (c .if2 .taken)))
 
 returns-4 : tie.Need-returns-4
-returns-4 c = passed (c .before .before .before .before .before) (sym (laid-out (c .before) ∙ ap (λ (b : Bool). firstOf ((11 if b) ∷ [])) (c .if2 .left)))
+returns-4 c = passed (c .before .before .before .before .before) (sym (laid-out (c .before) ∙ ap (λ (b : Bool). firstOf ((offsets if b) ∷ [])) (c .if2 .left)))
 
 pub check-words-spec : {M : Type 1} → statement M
 check-words-spec =

@@ -7,7 +7,7 @@ use lib.ListN.{length}
 use Rattle.picture.specs.Sizes.{macroblocks}
 use Rattle.picture.specs.Planes.{Planes, planes}
 use Rattle.picture.specs.Numbers.{settled, planeChecks}
-use Rattle.picture.proofs.CheckLaws.{refused-call, ready-number, ready-sized}
+use Rattle.picture.proofs.CheckLaws.{answers, refused-call, ready-number, ready-sized}
 use Rattle.plane_file.specs.Layout.{file}
 use Rattle.plane_file.specs.Numbers.{totalCheck, saveNumber}
 use Rattle.plane_file.proofs.save.save.Statement.{statement}
@@ -28,7 +28,7 @@ save-sized-requires c κs =
     let k = c .before in
     let n = k .before .before in
     let s = n .before .before in
-    ready-sized (s .args .mode) (s .args .size) (rest s) (sym (k .enum-told .given .1) ∙ n .check-shape .ensures)
+    ready-sized (s .args .mode) (s .args .size) (rest s) (sym (k .enum-told .given .1) ∙ answers (s .args .mode) (n .check-shape .ensures))
 
 returns : tie.Need-returns
 unfolding saveNumber
@@ -36,7 +36,7 @@ returns c =
     let k = c .before in
     let n = k .before .before in
     let s = n .before .before in
-    let (e, u) = refused-call (s .args .mode) (s .args .size) (rest s) (result s) (s .args .bytes .now) (sym (k .number .given .1) ∙ n .check-shape .ensures) in
+    let (e, u) = refused-call (s .args .mode) (s .args .size) (rest s) (result s) (s .args .bytes .now) (sym (k .number .given .1) ∙ answers (s .args .mode) (n .check-shape .ensures)) in
     (e, u ∙ ap (λ (j : ℕ). settled j (result s) (s .args .bytes .now)) e)
 
 returns-2 : tie.Need-returns-2
@@ -46,7 +46,7 @@ returns-2 c =
     let k = d .before .before in
     let n = k .before .before in
     let s = n .before .before in
-    let e = ready-number (s .args .mode) (s .args .size) (rest s) (sym (k .enum-told .given .1) ∙ n .check-shape .ensures) (d .save-sized .ensures .0) in
+    let e = ready-number (s .args .mode) (s .args .size) (rest s) (sym (k .enum-told .given .1) ∙ answers (s .args .mode) (n .check-shape .ensures)) (d .save-sized .ensures .0) in
     (e, d .save-sized .ensures .1 ∙ ap (λ (j : ℕ). settled j (result s) (s .args .bytes .now)) e)
 
 pub save-spec : {M : Type 1} → statement M

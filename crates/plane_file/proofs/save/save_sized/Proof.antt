@@ -6,6 +6,7 @@ use borrow.Author.Needs.{needs}
 use lib.ListN.{length}
 use Rattle.picture.specs.Sizes.{macroblocks}
 use Rattle.picture.specs.Planes.{Planes, planes}
+use Rattle.picture.specs.Refusals.{fileLength}
 use Rattle.picture.specs.Numbers.{firstOf, planeChecks}
 use Rattle.picture.proofs.CheckLaws.{counted, refused-before, refused-length, passed-length, planes-fit}
 use Rattle.plane_file.specs.Layout.{total, file}
@@ -30,14 +31,14 @@ want : (c : tie.After-total-bytes) → c .total-bytes .result ≡ total (n (c .b
 want c = c .total-bytes .ensures ∙ ap total (c .before .before .before .macroblocks .ensures .0)
 
 returns : tie.Need-returns
-returns c = let s = c .before .before .before .before in refused-before (planeChecks (n s) (given s)) 12 (length (s .args .bytes .now)) (total (n s)) (result s) (s .args .bytes .now) (number (c .before)) (c .if1 .taken)
+returns c = let s = c .before .before .before .before in refused-before (planeChecks (n s) (given s)) fileLength (length (s .args .bytes .now)) (total (n s)) (result s) (s .args .bytes .now) (number (c .before)) (c .if1 .taken)
 
 returns-2 : tie.Need-returns-2
 returns-2 c =
     let t = c .before in
     let e = t .before in
     let s = e .before .before .before .before in
-    refused-length (planeChecks (n s) (given s)) 12 (length (s .args .bytes .now)) (total (n s)) (result s) (s .args .bytes .now) (number (e .before)) tt (e .if1 .left) (λ h. c .if2 .taken (h ∙ sym (want t)))
+    refused-length (planeChecks (n s) (given s)) fileLength (length (s .args .bytes .now)) (total (n s)) (result s) (s .args .bytes .now) (number (e .before)) tt (e .if1 .left) (λ h. c .if2 .taken (h ∙ sym (want t)))
 
 save-file-requires : tie.Need-save-file-requires
 save-file-requires c κs =
@@ -52,7 +53,7 @@ returns-3 c =
     let f = d .before .before in
     let e = f .before .before in
     let s = e .before .before .before .before in
-    (passed-length (planeChecks (n s) (given s)) 12 (length (s .args .bytes .now)) (total (n s)) (result s) (s .args .bytes .now) (number (e .before)) (e .if1 .left) (f .if2 .left ∙ want (f .before)), d .save-file .ensures)
+    (passed-length (planeChecks (n s) (given s)) fileLength (length (s .args .bytes .now)) (total (n s)) (result s) (s .args .bytes .now) (number (e .before)) (e .if1 .left) (f .if2 .left ∙ want (f .before)), d .save-file .ensures)
 
 pub save-sized-spec : {M : Type 1} → statement M
 save-sized-spec =
