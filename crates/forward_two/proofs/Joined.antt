@@ -20,6 +20,8 @@ use Rattle.picture.proofs.Table.{same-lists}
 use Rattle.lanes.proofs.Rows.{square-at}
 use Rattle.grid.proofs.Rows.{row-inside}
 use Rattle.forward_kernel.specs.Placed.{undoneAt}
+use Rattle.forward_two_cores.specs.declared.cells.Cells.{Cells}
+use Rattle.forward_two_cores.specs.Cells.{OfOne}
 use Rattle.forward_two_cores.specs.Blocks.{squareIn, undoneIn, Among, Replaced}
 use Rattle.forward_two_edges.specs.Unfiltered.{unfiltered}
 use Rattle.forward_two_edges.specs.Strip.{Holds, Kept, Rows}
@@ -160,9 +162,9 @@ module _ (size : Size) (samples : List ℤ) (wide : 0 < size .width .0) (r c n :
 abbrev pub CarriedUpTo : ℕ → List ℤ → List ℤ → Type 0
 CarriedUpTo n old new = (y x : ℕ) → y < n → x < 2 → at new (72 * y + x) ≡ at old (72 * y + 64 + x)
 
-pub carry-more : (n : ℕ) (old mid : List ℤ) (u v : ℤ) → n < 18 → length mid ≡ 1296 → u ≡ at mid (72 * n + 64) → v ≡ at (set mid (72 * n) u) (72 * n + 65)
+carry-row : (n : ℕ) (old mid : List ℤ) (u v : ℤ) → n < 18 → length mid ≡ 1296 → u ≡ at mid (72 * n + 64) → v ≡ at (set mid (72 * n) u) (72 * n + 65)
     → CarriedUpTo n old mid → Kept 0 18 0 2 old mid → CarriedUpTo (n + 1) old (set (set mid (72 * n) u) (72 * n + 1) v) × Kept 0 18 0 2 old (set (set mid (72 * n) u) (72 * n + 1) v)
-carry-more n old mid u v low room e f d k =
+carry-row n old mid u v low room e f d k =
     let one = set mid (72 * n) u in
     let new = set one (72 * n + 1) v in
     let length-one : length one ≡ 1296 = length-set mid (72 * n) u ∙ room in
@@ -181,6 +183,11 @@ carry-more n old mid u v low room e f d k =
             ∙ getD-set-other mid (72 * n) (72 * y + x) u (pos 0) (λ q. o (omega (arith, q)) (omega (arith, q)) (omega (arith, q)) (omega (arith, q))) ∙ k .same y x h o;
       },
     )
+
+-- the same where the row begins at place i
+pub carry-more : (n i : ℕ) (old mid : List ℤ) (u v : ℤ) → i ≡ 72 * n → n < 18 → length mid ≡ 1296 → u ≡ at mid (i + 64) → v ≡ at (set mid i u) (i + 65)
+    → CarriedUpTo n old mid → Kept 0 18 0 2 old mid → CarriedUpTo (n + 1) old (set (set mid i u) (i + 1) v) × Kept 0 18 0 2 old (set (set mid i u) (i + 1) v)
+carry-more n i old mid u v begins low room e f d k = rw begins (carry-row n old mid u v low room (rw begins at e) (rw begins at f) d k)
 
 -- ---- core after core
 
@@ -212,11 +219,11 @@ module _ {size : Size} {samples : List ℤ} (r c n first : ℕ) (some : 0 < n) (
 
 -- ---- a group's macroblocks, and those below them, are macroblocks of the picture
 
-pub group-inside : (size : Size) (r c n m : ℕ) {dc low high : List ℤ} → m ≡ r * size .width .0 + c → r < size .height .0 → c + n ≤ size .width .0 → Planes size dc low high
-    → (m + n ≤ length dc) × (15 * (m + n) ≤ length low) × (240 * (m + n) ≤ length high)
-group-inside size r c n m place h k p =
+pub group-inside : (size : Size) (r c n : ℕ) (cells : Cells) {dc low high : List ℤ} → cells .dc ≡ r * size .width .0 + c → OfOne cells → r < size .height .0 → c + n ≤ size .width .0 → Planes size dc low high
+    → (cells .dc + n ≤ length dc) × (cells .low + 15 * n ≤ length low) × (cells .high + 240 * n ≤ length high)
+group-inside size r c n cells place one h k p =
     let W = size .width .0 in
-    let all : m + n ≤ macroblocks size = omega (arith, row-inside r (size .height .0) W h) in
+    let all : cells .dc + n ≤ macroblocks size = omega (arith, row-inside r (size .height .0) W h) in
     (omega (arith, all, p .of-dc), omega (arith, all, p .of-low), omega (arith, all, p .of-high))
 
 -- ---- which of two cases

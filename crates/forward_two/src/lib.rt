@@ -11,14 +11,17 @@ ghost use Rattle.lifting.specs.Wraps.{Within};
 ghost use Rattle.transform.specs.Level.{cell, level, cores as coresOf};
 ghost use Rattle.transform.specs.Grids.{firstGrid, secondGrid};
 ghost use Rattle.picture.specs.Sizes.{macroblocks, Sized};
+ghost use Rattle.forward_two_cores.specs.Cells.{OfOne};
 ghost use Rattle.forward_two_cores.specs.Blocks.{blockOf, undoneIn, Among};
 ghost use Rattle.forward_two_edges.specs.Unfiltered.{unfiltered};
 ghost use Rattle.forward_two_edges.specs.Strip.{Holds, Kept, Given, Rows};
 ghost use Rattle.forward_two.specs.Strips.{Carried, Through, Planes, Lowered};
+use forward_two_cores::cells::Cells;
 use forward_two_cores::undo_cores;
 use forward_two_cores::undo_macroblock;
 use forward_two_edges::edge_columns;
 use forward_two_edges::edge_rows;
+use forward_two_edges::place::Place;
 use forward_two_parked::fetch;
 use forward_two_parked::park;
 use forward_two_windows::windows;
@@ -31,9 +34,11 @@ fn carry(strip: &mut [i32])
     ensures { λ u. ⌜ ((y x : ℕ) → y < 18 → x < 2 → number (now (strip .exit)) (72 * y + x) ≡ number (now (strip .entry)) (72 * y + 64 + x)) ⌝ }
     ensures { λ u. ⌜ Kept 0 18 0 2 (now (strip .entry)) (now (strip .exit)) ⌝ }
 {
-    for y in 0..18 {
-        strip[72 * y] = strip[72 * y + 64];
-        strip[72 * y + 1] = strip[72 * y + 65];
+    let mut row = 0;
+    for y in 0..18usize {
+        strip[row] = strip[row + 64];
+        strip[row + 1] = strip[row + 65];
+        row += 72;
     }
 }
 
@@ -83,8 +88,13 @@ fn middle(
 {
     let across = size.width.0 as usize;
     let w = 16 * across;
-    edge_rows(size, r, c, samples, at, first, 2, n, strip);
-    let last = windows(size, r, c, samples, at + w + w, down, n, strip);
+    let top = Place {
+        samples: at,
+        strip: 0,
+    };
+    let second = top.below(2, w);
+    edge_rows(size, r, c, samples, top, first, 2, n, strip);
+    let last = windows(size, r, c, samples, second, down, n, strip);
     edge_rows(size, r, c, samples, last, 4 * down + 2, 16, n, strip);
 }
 
@@ -118,15 +128,16 @@ fn fill(
     middle(size, r, c, samples, at, first, down, 4 * n, strip);
 }
 
-// The cores of the strip's n macroblocks, of which the first is macroblock m.
-fn cores(strip: &[i32], dc: &mut [i32], low: &mut [i32], high: &mut [i32], m: usize, n: usize)
+// The cores of the strip's n macroblocks, of which the first has these cells.
+fn cores(strip: &[i32], dc: &mut [i32], low: &mut [i32], high: &mut [i32], cells: Cells, n: usize)
     requires { ⌜ (length (now strip) ≡ 1296) × (n ≤ 4) ⌝ }
-    requires { ⌜ (m + n ≤ length (now dc)) × (15 * (m + n) ≤ length (now low)) × (240 * (m + n) ≤ length (now high)) ⌝ }
-    ensures { λ u. ⌜ ((t b : ℕ) → b < n → t / 16 ≡ m + b → blockOf (now (dc .exit)) (now (low .exit)) (now (high .exit)) t ≡ undoneIn 72 (16 * b) (now (strip .entry)) (t % 16)) ⌝ }
-    ensures { λ u. ⌜ ((t : ℕ) → (Among m (m + n) t → ⊥) → blockOf (now (dc .exit)) (now (low .exit)) (now (high .exit)) t ≡ blockOf (now (dc .entry)) (now (low .entry)) (now (high .entry)) t) ⌝ }
+    requires { ⌜ OfOne cells ⌝ }
+    requires { ⌜ (cells .dc + n ≤ length (now dc)) × (cells .low + 15 * n ≤ length (now low)) × (cells .high + 240 * n ≤ length (now high)) ⌝ }
+    ensures { λ u. ⌜ ((t b : ℕ) → b < n → t / 16 ≡ cells .dc + b → blockOf (now (dc .exit)) (now (low .exit)) (now (high .exit)) t ≡ undoneIn 72 (16 * b) (now (strip .entry)) (t % 16)) ⌝ }
+    ensures { λ u. ⌜ ((t : ℕ) → (Among (cells .dc) (cells .dc + n) t → ⊥) → blockOf (now (dc .exit)) (now (low .exit)) (now (high .exit)) t ≡ blockOf (now (dc .entry)) (now (low .entry)) (now (high .entry)) t) ⌝ }
 {
     for b in 0..n {
-        undo_macroblock(strip, 72, 16 * b, dc, low, high, m + b);
+        undo_macroblock(strip, 72, 16 * b, dc, low, high, cells.after(b));
     }
 }
 
@@ -140,7 +151,7 @@ fn upper(
     dc: &[i32],
     low: &[i32],
     high: &[i32],
-    m: usize,
+    cells: Cells,
     first: usize,
     strip: &mut [i32],
 )
@@ -148,7 +159,7 @@ fn upper(
     requires { ⌜ Planes size (now dc) (now low) (now high) ⌝ }
     requires { ⌜ (0 < n) × (n ≤ 4) × (c + n ≤ size .width .0) ⌝ }
     requires { ⌜ ((first ≡ 0) × (r ≡ 0)) ⊎ ((first ≡ 2) × (0 < r)) ⌝ }
-    requires { ⌜ m ≡ r * size .width .0 + c ⌝ }
+    requires { ⌜ (cells .dc ≡ r * size .width .0 + c) × OfOne cells ⌝ }
     requires { ⌜ Holds size (now samples) r c first 18 0 (16 * n + 2) (now strip) ⌝ }
     requires { ⌜ Through size (now samples) (r * size .width .0 + c) (blockOf (now dc) (now low) (now high)) ⌝ }
     ensures { λ u. ⌜ Holds size (now (samples .entry)) r c 0 18 0 (16 * n) (now (strip .exit)) ⌝ }
@@ -158,7 +169,7 @@ fn upper(
     if first == 0 {
         return;
     }
-    fetch(dc, low, high, m, n, strip);
+    fetch(dc, low, high, cells, n, strip);
 }
 
 // Rows 16 and 17 of the strip, where there is a row of macroblocks below.
@@ -170,12 +181,12 @@ fn lower(
     dc: &mut [i32],
     low: &mut [i32],
     high: &mut [i32],
-    m: usize,
+    cells: Cells,
     down: usize,
     strip: &[i32],
 )
     requires { ⌜ Sized size × (r < size .height .0) ⌝ }
-    requires { ⌜ m ≡ r * size .width .0 + c ⌝ }
+    requires { ⌜ (cells .dc ≡ r * size .width .0 + c) × OfOne cells ⌝ }
     requires { ⌜ (length (now strip) ≡ 1296) × (n ≤ 4) × (c + n ≤ size .width .0) ⌝ }
     requires { ⌜ Planes size (now dc) (now low) (now high) ⌝ }
     requires { ⌜ ((down ≡ 3) × (r + 1 ≡ size .height .0)) ⊎ ((down ≡ 4) × (r + 1 < size .height .0)) ⌝ }
@@ -185,10 +196,10 @@ fn lower(
         return;
     }
     let across = size.width.0 as usize;
-    park(dc, low, high, m + across, n, strip);
+    park(dc, low, high, cells.after(across), n, strip);
 }
 
-// n macroblocks of row r, from macroblock c of the row on: they begin at place `at` of the samples and with macroblock m of the planes.
+// n macroblocks of row r, from macroblock c of the row on: they begin at place `at` of the samples and with these cells of the planes.
 fn group(
     size: Size,
     r: usize,
@@ -199,13 +210,13 @@ fn group(
     dc: &mut [i32],
     low: &mut [i32],
     high: &mut [i32],
-    m: usize,
+    cells: Cells,
     first: usize,
     down: usize,
     strip: &mut [i32],
 )
     requires { ⌜ Given size r c (now samples) (now strip) ⌝ }
-    requires { ⌜ (at ≡ r * (256 * size .width .0) + 16 * c) × (m ≡ r * size .width .0 + c) ⌝ }
+    requires { ⌜ (at ≡ r * (256 * size .width .0) + 16 * c) × (cells .dc ≡ r * size .width .0 + c) × OfOne cells ⌝ }
     requires { ⌜ Planes size (now dc) (now low) (now high) ⌝ }
     requires { ⌜ Rows size r first down ⌝ }
     requires { ⌜ (0 < n) × (n ≤ 4) × (c + n ≤ size .width .0) ⌝ }
@@ -216,9 +227,9 @@ fn group(
     ensures { λ u. ⌜ length (now (strip .exit)) ≡ 1296 ⌝ }
 {
     fill(size, r, c, n, samples, at, first, down, strip);
-    upper(size, r, c, n, samples, dc, low, high, m, first, strip);
-    cores(strip, dc, low, high, m, n);
-    lower(size, r, c, n, dc, low, high, m, down, strip);
+    upper(size, r, c, n, samples, dc, low, high, cells, first, strip);
+    cores(strip, dc, low, high, cells, n);
+    lower(size, r, c, n, dc, low, high, cells, down, strip);
 }
 
 // How many of those that are left go together.
@@ -233,7 +244,7 @@ fn together(left: usize) -> usize
     left
 }
 
-// Row r of macroblocks, which begins at place `at` of the samples and with macroblock m of the planes.
+// Row r of macroblocks, which begins at place `at` of the samples and with these cells of the planes.
 fn undo_row(
     size: Size,
     r: usize,
@@ -242,13 +253,13 @@ fn undo_row(
     dc: &mut [i32],
     low: &mut [i32],
     high: &mut [i32],
-    m: usize,
+    cells: Cells,
     first: usize,
     down: usize,
     strip: &mut [i32],
 )
     requires { ⌜ Given size r 0 (now samples) (now strip) ⌝ }
-    requires { ⌜ (at ≡ r * (256 * size .width .0)) × (m ≡ r * size .width .0) ⌝ }
+    requires { ⌜ (at ≡ r * (256 * size .width .0)) × (cells .dc ≡ r * size .width .0) × OfOne cells ⌝ }
     requires { ⌜ Planes size (now dc) (now low) (now high) ⌝ }
     requires { ⌜ Rows size r first down ⌝ }
     requires { ⌜ Through size (now samples) (r * size .width .0) (blockOf (now dc) (now low) (now high)) ⌝ }
@@ -270,7 +281,7 @@ fn undo_row(
             dc,
             low,
             high,
-            m + c,
+            cells.after(c),
             first,
             down,
             strip,
@@ -316,11 +327,15 @@ fn undo_filtered(
 {
     let across = size.width.0 as usize;
     let height = size.height.0 as usize;
-    let w = 16 * across;
+    let w = size.samples().width.0 as usize;
     let mut strip = [0i32; 1296];
     let mut large = false;
     let mut at = 0;
-    let mut m = 0;
+    let mut cells = Cells {
+        dc: 0,
+        low: 0,
+        high: 0,
+    };
     for r in 0..height {
         let first = first_row(r);
         let rows = windows_down(r, height);
@@ -333,14 +348,14 @@ fn undo_filtered(
             dc,
             low,
             high,
-            m,
+            cells,
             first,
             rows,
             &mut strip,
         );
         large = large | found;
         at += 16 * w;
-        m += across;
+        cells = cells.after(across);
     }
     large
 }

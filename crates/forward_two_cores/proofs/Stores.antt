@@ -83,12 +83,12 @@ module _ (w i : ℕ) (grid : List ℤ) (k : ℕ) {j : ℕ} (begins : j ≡ i + k
       placed-after 0 (4 * k) (4 * k) 4 (4 * (k + 1)) f (at zeros) f (omega arith) (omega arith) (omega arith) (λ b h. refl) (λ l h. z l h ∙ ap (λ b. at b 0) (side-by-side l (4 * k + l) (omega arith) (omega arith)))
       p (subst (λ (a : ℕ). Placed a 4 (at zeros) mid new) (omega arith) (four-placed (4 * k) zeros mid (omega (arith, p .len)) e))
 
-  pub rest-more : (m : ℕ) {from : ℕ} {old mid new : List ℤ} → from ≡ 240 * m + 60 * k → Placed (240 * m) (60 * k) (λ n. at (undoneIn w i grid (n / 15)) (n % 15 + 1)) old mid
-      → Placed from 60 (λ n. at (undoneAt w (j + 4 * (n / 15)) grid) (n % 15 + 1)) mid new → Placed (240 * m) (60 * (k + 1)) (λ n. at (undoneIn w i grid (n / 15)) (n % 15 + 1)) old new
-  rest-more m {mid = mid} {new} e p q =
+  pub rest-more : (first : ℕ) {from : ℕ} {old mid new : List ℤ} → from ≡ first + 60 * k → Placed first (60 * k) (λ n. at (undoneIn w i grid (n / 15)) (n % 15 + 1)) old mid
+      → Placed from 60 (λ n. at (undoneAt w (j + 4 * (n / 15)) grid) (n % 15 + 1)) mid new → Placed first (60 * (k + 1)) (λ n. at (undoneIn w i grid (n / 15)) (n % 15 + 1)) old new
+  rest-more first {mid = mid} {new} e p q =
       let f : ℕ → ℤ = λ n. at (undoneIn w i grid (n / 15)) (n % 15 + 1) in
       let g : ℕ → ℤ = λ n. at (undoneAt w (j + 4 * (n / 15)) grid) (n % 15 + 1) in
-      placed-after (240 * m) (60 * k) (60 * k) 60 (60 * (k + 1)) f g f (omega arith) (omega arith) (omega arith) (λ n h. refl)
+      placed-after first (60 * k) (60 * k) 60 (60 * (k + 1)) f g f (omega arith) (omega arith) (omega arith) (λ n h. refl)
       (λ n h. ap₂ (λ (b : List ℤ) (n : ℕ). at b n) (side-by-side (n / 15) ((60 * k + n) / 15) (omega arith) (omega arith)) (omega arith)) p (subst (λ (a : ℕ). Placed a 60 g mid new) e q)
 
 module _ (w i : ℕ) (grid : List ℤ) where

@@ -1,4 +1,6 @@
 // The core transforms of level two undone from a grid into the three planes, four blocks at a time: a macroblock, and all of a picture from its samples.
+pub mod cells; // cells.rt: where a macroblock's numbers begin in the planes
+
 ghost use mathlib.Core.Path.{_≡_};
 ghost use mathlib.Core.Bool.{false};
 ghost use Prim.Native.Nat.{_+_, _*_, _/_, _%_, _<_, _≤_};
@@ -10,25 +12,27 @@ ghost use Rattle.transform.specs.Level.{cores};
 ghost use Rattle.transform.specs.Grids.{firstGrid, secondGrid};
 ghost use Rattle.picture.specs.Sizes.{macroblocks, Sized};
 ghost use Rattle.forward_kernel.specs.Placed.{blockIn};
+ghost use Rattle.forward_two_cores.specs.Cells.{OfOne};
 ghost use Rattle.forward_two_cores.specs.Blocks.{blockOf, squareIn, undoneIn, Among, Replaced, Elsewhere};
+use crate::cells::Cells;
 use forward_kernel::undo_four_cores;
 use grid::put_four;
 use large_numbers::some_large;
 use picture::size::Size;
 
-// The coefficients 0 of macroblock m's blocks: its DC number and its low-pass numbers.
-fn put_zeros(dc: &mut [i32], low: &mut [i32], m: usize, z: &[i32])
-    requires { ⌜ (m < length (now dc)) × (15 * m + 14 < length (now low)) ⌝ }
+// The coefficients 0 of macroblock m's blocks: its DC number and its low-pass numbers, of which the first stands at `from`.
+fn put_zeros(dc: &mut [i32], low: &mut [i32], m: usize, from: usize, z: &[i32])
+    requires { ⌜ (m < length (now dc)) × (from + 14 < length (now low)) × (from ≡ 15 * m) ⌝ }
     requires { ⌜ length (now z) ≡ 16 ⌝ }
     ensures { λ u. ⌜ Replaced (λ s. s ≡ m) (λ s. now (z .entry)) (blockIn (now (dc .entry)) (now (low .entry))) (blockIn (now (dc .exit)) (now (low .exit))) ⌝ }
 {
     dc[m] = z[0];
     for k in 0..15 {
-        low[15 * m + k] = z[k + 1];
+        low[from + k] = z[k + 1];
     }
 }
 
-// The blocks of macroblock m from their squares in a grid of `w` columns, of which the first number stands at `at`.
+// The blocks of the macroblock with these cells from their squares in a grid of `w` columns, of which the first number stands at `at`.
 pub fn undo_macroblock(
     grid: &[i32],
     w: usize,
@@ -36,23 +40,24 @@ pub fn undo_macroblock(
     dc: &mut [i32],
     low: &mut [i32],
     high: &mut [i32],
-    m: usize,
+    cells: Cells,
 )
     requires { ⌜ at + 15 * w + 15 < length (now grid) ⌝ }
-    requires { ⌜ (m < length (now dc)) × (15 * m + 14 < length (now low)) × (240 * m + 239 < length (now high)) ⌝ }
-    ensures { λ u. ⌜ Replaced (λ t. t / 16 ≡ m) (λ t. undoneIn w at (now (grid .entry)) (t % 16))
+    requires { ⌜ OfOne cells ⌝ }
+    requires { ⌜ (cells .dc < length (now dc)) × (cells .low + 14 < length (now low)) × (cells .high + 239 < length (now high)) ⌝ }
+    ensures { λ u. ⌜ Replaced (λ t. t / 16 ≡ cells .dc) (λ t. undoneIn w at (now (grid .entry)) (t % 16))
         (blockOf (now (dc .entry)) (now (low .entry)) (now (high .entry))) (blockOf (now (dc .exit)) (now (low .exit)) (now (high .exit))) ⌝ }
 {
     let mut z = [0i32; 16];
     let mut row = at;
-    let mut from = 240 * m;
+    let mut from = cells.high;
     for k in 0..4 {
         let zeros = undo_four_cores(grid, w, row, high, from);
         put_four(&mut z, 1, 4 * k, zeros);
         row += 4 * w;
         from += 60;
     }
-    put_zeros(dc, low, m, &z);
+    put_zeros(dc, low, cells.dc, cells.low, &z);
 }
 
 // How many rows of a macroblock are touched: none in a picture of at most 128 macroblocks across, whose rows stay in the cache.
@@ -88,18 +93,19 @@ fn undo_macroblock_of(
     dc: &mut [i32],
     low: &mut [i32],
     high: &mut [i32],
-    m: usize,
+    cells: Cells,
 )
     requires { ⌜ at + 15 * w + 15 < length (now samples) ⌝ }
-    requires { ⌜ (m < length (now dc)) × (15 * m + 14 < length (now low)) × (240 * m + 239 < length (now high)) ⌝ }
-    ensures { λ u. ⌜ Replaced (λ t. t / 16 ≡ m) (λ t. undoneIn w at (now (samples .entry)) (t % 16))
+    requires { ⌜ OfOne cells ⌝ }
+    requires { ⌜ (cells .dc < length (now dc)) × (cells .low + 14 < length (now low)) × (cells .high + 239 < length (now high)) ⌝ }
+    ensures { λ u. ⌜ Replaced (λ t. t / 16 ≡ cells .dc) (λ t. undoneIn w at (now (samples .entry)) (t % 16))
         (blockOf (now (dc .entry)) (now (low .entry)) (now (high .entry))) (blockOf (now (dc .exit)) (now (low .exit)) (now (high .exit))) ⌝ }
 {
-    touch(samples, w, at, high, 240 * m);
-    undo_macroblock(samples, w, at, dc, low, high, m);
+    touch(samples, w, at, high, cells.high);
+    undo_macroblock(samples, w, at, dc, low, high, cells);
 }
 
-// Row r of a picture's macroblocks, which begins at place `at` of the samples and with macroblock m of the planes.
+// Row r of a picture's macroblocks, which begins at place `at` of the samples and with these cells of the planes.
 fn undo_row(
     size: Size,
     r: usize,
@@ -108,10 +114,10 @@ fn undo_row(
     dc: &mut [i32],
     low: &mut [i32],
     high: &mut [i32],
-    m: usize,
+    cells: Cells,
 )
     requires { ⌜ Sized size × (r < size .height .0) ⌝ }
-    requires { ⌜ (at ≡ r * (256 * size .width .0)) × (m ≡ r * size .width .0) ⌝ }
+    requires { ⌜ (at ≡ r * (256 * size .width .0)) × (cells .dc ≡ r * size .width .0) × OfOne cells ⌝ }
     requires { ⌜ length (now samples) ≡ 256 * macroblocks size ⌝ }
     requires { ⌜ (length (now dc) ≡ macroblocks size) × (length (now low) ≡ 15 * macroblocks size) × (length (now high) ≡ 240 * macroblocks size) ⌝ }
     ensures { λ u. ⌜ Replaced (Among (r * size .width .0) (r * size .width .0 + size .width .0)) (λ t. undo core (squareIn (size .width .0) (now (samples .entry)) t))
@@ -121,7 +127,7 @@ fn undo_row(
     let width = across as usize;
     let w = 16 * width;
     for c in 0..width {
-        undo_macroblock_of(samples, w, at + 16 * c, dc, low, high, m + c);
+        undo_macroblock_of(samples, w, at + 16 * c, dc, low, high, cells.after(c));
     }
 }
 
@@ -143,16 +149,20 @@ pub fn undo_cores(
 {
     let across = size.width.0 as usize;
     let down = size.height.0 as usize;
-    let w = 16 * across;
+    let w = size.samples().width.0 as usize;
     let mut at = 0;
-    let mut m = 0;
+    let mut cells = Cells {
+        dc: 0,
+        low: 0,
+        high: 0,
+    };
     let mut large = false;
     for r in 0..down {
-        undo_row(size, r, samples, at, dc, low, high, m);
+        undo_row(size, r, samples, at, dc, low, high, cells);
         let found = some_large(samples, at, 16 * w);
         large = large | found;
         at += 16 * w;
-        m += across;
+        cells = cells.after(across);
     }
     large
 }

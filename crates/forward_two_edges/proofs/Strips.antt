@@ -22,7 +22,8 @@ use Rattle.picture.proofs.CheckLaws.{few-macroblocks}
 use Rattle.grid.proofs.Rows.{row-inside}
 use Rattle.forward_kernel.proofs.Stores.{below-four}
 use Rattle.forward_two_edges.specs.Unfiltered.{unfiltered, Edge, First}
-use Rattle.forward_two_edges.specs.Strip.{Holds, Kept, Given, Rows, Spread, Columns, unfilteredAt}
+use Rattle.forward_two_edges.specs.declared.place.Place.{Place}
+use Rattle.forward_two_edges.specs.Strip.{Holds, Kept, Given, Rows, Stands, Spread, Columns, unfilteredAt}
 use Rattle.forward_two_edges.proofs.Alone.{first-edge}
 use Rattle.forward_two_edges.proofs.Numbers.{cell-low, at-four, row-at, column-at, corner-at}
 
@@ -185,19 +186,19 @@ module _ (size : Size) (samples : List ℤ) (wide : 0 < size .width .0) (tall : 
   room = len ∙ omega arith
 
   -- n fours of row y
-  pub row-filled : (y n a : ℕ) {old new : List ℤ} → n ≤ 16 → 4 * c + n < 4 * W → Edge (4 * H) (16 * r + y) → 16 * r + y < 16 * H → a ≡ (16 * r + y) * (16 * W) + 16 * c + 2
-      → Spread (72 * y + 2) 1 (4 * n) (foursFrom samples 1 a) old new
+  pub row-filled : (y n a i : ℕ) {old new : List ℤ} → n ≤ 16 → 4 * c + n < 4 * W → Edge (4 * H) (16 * r + y) → 16 * r + y < 16 * H → a ≡ (16 * r + y) * (16 * W) + 16 * c + 2 → i ≡ 72 * y + 2
+      → Spread i 1 (4 * n) (foursFrom samples 1 a) old new
       → Holds size samples r c y (y + 1) 2 (4 * n + 2) new × Kept y (y + 1) 2 (4 * n + 2) old new
   unfolding unfilteredAt unfiltered
-  row-filled y n a {old} {new} few some edge low e d = (
+  row-filled y n a i {old} {new} few some edge low e p d = (
     record {
       there = λ z x f g h k u v.
           let j = x - 2 in
-          let i = 4 * c + j / 4 in
+          let b = 4 * c + j / 4 in
           let same : z ≡ y = omega arith in
           ap (at new) (omega (arith, same)) ∙ d .own j (omega arith)
           ∙ ap (λ (b : ℕ). at (undo fourFilter (get (line 1 b) samples)) (j % 4)) (omega (arith, e))
-          ∙ sym (row-at (4 * W) (4 * H) samples room (16 * r + y) i (j % 4) (omega arith) edge (omega arith) (omega arith))
+          ∙ sym (row-at (4 * W) (4 * H) samples room (16 * r + y) b (j % 4) (omega arith) edge (omega arith) (omega arith))
           ∙ ap₂ (λ (m b : ℕ). at (undo (filters (4 * W) (4 * H)) samples) (cell (4 * W) (16 * r + m) b)) (sym same) (omega arith);
     },
     record { len = d .len; same = λ z x h o. d .others (72 * z + x) (λ k l q. o (omega (arith, q)) (omega (arith, q)) (omega (arith, q)) (omega (arith, q))) },
@@ -272,10 +273,10 @@ module _ {size : Size} {r first down : ℕ} (low : r < size .height .0) (rows : 
       which (inr h) = omega (arith, h)
 
   -- the first row, if it lies above the windows, is the first of the strip
-  pub first-place : (p x : ℕ) {a : ℕ} → a ≡ cell p (16 * r) x → first < 2 → a ≡ cell p (16 * r + first) x
-  first-place p x e h = e ∙ ap (λ (y : ℕ). cell p y x) (which (rows .top))
+  pub first-place : (c x : ℕ) (place : Place) → Stands size r c 0 x place → first < 2 → Stands size r c first x place
+  first-place c x place e h = rw (which (rows .top)) e
     where
-      which : ((first ≡ 0) × (r ≡ 0)) ⊎ ((first ≡ 2) × (0 < r)) → 16 * r ≡ 16 * r + first
+      which : ((first ≡ 0) × (r ≡ 0)) ⊎ ((first ≡ 2) × (0 < r)) → first ≡ 0
       which (inl k) = omega (arith, k)
       which (inr k) = absurd (omega (arith, k))
 

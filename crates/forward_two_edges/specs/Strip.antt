@@ -10,6 +10,7 @@ use Rattle.figures.specs.Figures.{fourFilter}
 use Rattle.transform.specs.Level.{cell, strip as line}
 use Rattle.picture.specs.Sizes.{macroblocks, Sized}
 use Rattle.picture.specs.declared.size.Size.{Size}
+use Rattle.forward_two_edges.specs.declared.place.Place.{Place}
 use Rattle.forward_two_edges.specs.Unfiltered.{unfiltered}
 
 -- the numbers of these rows and columns are there, as far as the picture has them
@@ -34,6 +35,10 @@ pub record Given (size : Size) (r c : ℕ) (samples strip : List ℤ) : Type 0 w
 pub record Rows (size : Size) (r first down : ℕ) : Type 0 where
   pub top : ((first ≡ 0) × (r ≡ 0)) ⊎ ((first ≡ 2) × (0 < r))
   pub bottom : ((down ≡ 3) × (r + 1 ≡ size .height .0)) ⊎ ((down ≡ 4) × (r + 1 < size .height .0))
+
+-- row y, column x of the strip, in the samples and in the strip
+abbrev pub Stands : Size → ℕ → ℕ → ℕ → ℕ → Place → Type 0
+Stands size r c y x place = (place .samples ≡ cell (4 * size .width .0) (16 * r + y) (16 * c + x)) × (place .strip ≡ 72 * y + x)
 
 -- n numbers from place i on, each `step` after the one before, are f 0 to f (n - 1), and all others what they were
 pub record Spread (i step n : ℕ) (f : ℕ → ℤ) (old new : List ℤ) : Type 0 where

@@ -1,11 +1,14 @@
 // The edges of a picture in the strip: the filters of four along them, and at the corners, undone from the samples.
+pub mod place; // place.rt: a place of the picture, in the samples and in the strip
+
 ghost use mathlib.Core.Path.{_≡_};
 ghost use Prim.Native.Nat.{ℕ, _+_, _*_, _/_, _%_, _<_, _≤_};
 ghost use lib.ListN.{length};
 ghost use Rattle.lifting.specs.Program.{at as number};
 ghost use Rattle.transform.specs.Level.{cell};
 ghost use Rattle.forward_two_edges.specs.Unfiltered.{Edge, First};
-ghost use Rattle.forward_two_edges.specs.Strip.{Holds, Kept, Given, Rows, Spread, Columns, unfilteredAt};
+ghost use Rattle.forward_two_edges.specs.Strip.{Holds, Kept, Given, Rows, Stands, Spread, Columns, unfilteredAt};
+use crate::place::Place;
 use four_filter::unfiltered;
 use grid::get_corner;
 use grid::get_four;
@@ -29,20 +32,27 @@ fn edge_row(
     r: usize,
     c: usize,
     samples: &[i32],
-    at: usize,
+    at: Place,
     y: usize,
     n: usize,
     strip: &mut [i32],
 )
     requires { ⌜ Given size r c (now samples) (now strip) ⌝ }
-    requires { ⌜ at ≡ cell (4 * size .width .0) (16 * r + y) (16 * c) ⌝ }
+    requires { ⌜ Stands size r c y 0 at ⌝ }
     requires { ⌜ (y < 18) × (n ≤ 16) × (4 * c + n < 4 * size .width .0) ⌝ }
     requires { ⌜ Edge (4 * size .height .0) (16 * r + y) × (16 * r + y < 16 * size .height .0) ⌝ }
     ensures { λ u. ⌜ Holds size (now (samples .entry)) r c y (y + 1) 2 (4 * n + 2) (now (strip .exit)) ⌝ }
     ensures { λ u. ⌜ Kept y (y + 1) 2 (4 * n + 2) (now (strip .entry)) (now (strip .exit)) ⌝ }
 {
     for l in 0..n {
-        unfilter_four(samples, 1, at + 2 + 4 * l, strip, 1, 72 * y + 2 + 4 * l);
+        unfilter_four(
+            samples,
+            1,
+            at.samples + 2 + 4 * l,
+            strip,
+            1,
+            at.strip + 2 + 4 * l,
+        );
     }
 }
 
@@ -52,14 +62,14 @@ pub fn edge_rows(
     r: usize,
     c: usize,
     samples: &[i32],
-    at: usize,
+    at: Place,
     top: usize,
     bottom: usize,
     n: usize,
     strip: &mut [i32],
 )
     requires { ⌜ Given size r c (now samples) (now strip) ⌝ }
-    requires { ⌜ (top < bottom → at ≡ cell (4 * size .width .0) (16 * r + top) (16 * c)) ⌝ }
+    requires { ⌜ (top < bottom → Stands size r c top 0 at) ⌝ }
     requires { ⌜ (bottom ≤ 18) × (n ≤ 16) × (4 * c + n < 4 * size .width .0) ⌝ }
     requires { ⌜ ((y : ℕ) → top ≤ y → y < bottom → Edge (4 * size .height .0) (16 * r + y) × (16 * r + y < 16 * size .height .0)) ⌝ }
     ensures { λ u. ⌜ Holds size (now (samples .entry)) r c top bottom 2 (4 * n + 2) (now (strip .exit)) ⌝ }
@@ -69,7 +79,7 @@ pub fn edge_rows(
     let mut row = at;
     for y in top..bottom {
         edge_row(size, r, c, samples, row, y, n, strip);
-        row += 16 * across;
+        row = row.below(1, 16 * across);
     }
 }
 
@@ -79,14 +89,14 @@ fn corner(
     r: usize,
     c: usize,
     samples: &[i32],
-    at: usize,
+    at: Place,
     top: usize,
     bottom: usize,
     strip: &mut [i32],
     x: usize,
 )
     requires { ⌜ Given size r c (now samples) (now strip) ⌝ }
-    requires { ⌜ (top < bottom → at ≡ cell (4 * size .width .0) (16 * r + top) (16 * c + x)) ⌝ }
+    requires { ⌜ (top < bottom → Stands size r c top x at) ⌝ }
     requires { ⌜ (bottom ≤ 16) × (x ≤ 70) × First (4 * size .width .0) (16 * c + x) ⌝ }
     requires { ⌜ (top < bottom → (bottom ≡ top + 2) × First (4 * size .height .0) (16 * r + top)) ⌝ }
     ensures { λ u. ⌜ Holds size (now (samples .entry)) r c top bottom x (x + 2) (now (strip .exit)) ⌝ }
@@ -94,31 +104,24 @@ fn corner(
 {
     if top < bottom {
         let across = size.width.0 as usize;
-        let filtered = get_corner(samples, 16 * across, at);
+        let filtered = get_corner(samples, 16 * across, at.samples);
         let undone = unfiltered(filtered);
-        put_corner(strip, 72, 72 * top + x, undone);
+        put_corner(strip, 72, at.strip, undone);
     }
 }
 
-// n fours one below the other in each of two columns of samples side by side, `w` of which make a row: from place `at` of the samples to place `to` of the strip.
+// n fours one below the other in each of two columns of samples side by side, `w` of which make a row, from place `at` on.
 // Both go in one walk, since their numbers stand in the same lines of memory. The place below the last four of the first is given back.
-fn column_fours(
-    samples: &[i32],
-    w: usize,
-    at: usize,
-    n: usize,
-    strip: &mut [i32],
-    to: usize,
-) -> usize
-    requires { ⌜ (0 < w) × (at + 1 + 4 * w * n ≤ length (now samples)) × (to + 1 + 288 * n < length (now strip) + 72) ⌝ }
-    ensures { λ u. ⌜ Columns to (4 * n) (λ b j. number (unfilteredAt (now (samples .entry)) w (at + b + 4 * w * (j / 4))) (j % 4)) (now (strip .entry)) (now (strip .exit)) ⌝ }
-    ensures { λ u. ⌜ u ≡ at + 4 * w * n ⌝ }
+fn column_fours(samples: &[i32], w: usize, at: Place, n: usize, strip: &mut [i32]) -> Place
+    requires { ⌜ (0 < w) × (at .samples + 1 + 4 * w * n ≤ length (now samples)) × (at .strip + 1 + 288 * n < length (now strip) + 72) ⌝ }
+    ensures { λ u. ⌜ Columns (at .strip) (4 * n) (λ b j. number (unfilteredAt (now (samples .entry)) w (at .samples + b + 4 * w * (j / 4))) (j % 4)) (now (strip .entry)) (now (strip .exit)) ⌝ }
+    ensures { λ u. ⌜ (u .samples ≡ at .samples + 4 * w * n) × (u .strip ≡ at .strip + 288 * n) ⌝ }
 {
     let mut next = at;
     for l in 0..n {
-        unfilter_four(samples, w, next, strip, 72, to + 288 * l);
-        unfilter_four(samples, w, next + 1, strip, 72, to + 1 + 288 * l);
-        next += 4 * w;
+        unfilter_four(samples, w, next.samples, strip, 72, next.strip);
+        unfilter_four(samples, w, next.samples + 1, strip, 72, next.strip + 1);
+        next = next.below(4, w);
     }
     next
 }
@@ -144,9 +147,12 @@ pub fn edge_columns(
 {
     let across = size.width.0 as usize;
     let w = 16 * across;
-    let top = at + x;
-    let second = top + w + w;
+    let top = Place {
+        samples: at + x,
+        strip: x,
+    };
+    let second = top.below(2, w);
     corner(size, r, c, samples, top, first, 2, strip, x);
-    let last = column_fours(samples, w, second, down, strip, 144 + x);
+    let last = column_fours(samples, w, second, down, strip);
     corner(size, r, c, samples, last, 4 * down + 2, 16, strip, x);
 }

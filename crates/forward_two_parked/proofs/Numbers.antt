@@ -36,8 +36,8 @@ module _ (dc low high : List ℤ) where
   unfolding blockOf
   block-at t j h = at-table 16 (coefficients (at (blockIn dc low (t / 16)) (t % 16)) (λ i. at high (15 * t + i))) j h
 
-  pub block-of : (m k j : ℕ) (x : ℤ) → k < 16 → j < 16 → x ≡ at (blockIn dc low m) k → coefficients x (λ i. at high (240 * m + 15 * k + i)) j ≡ at (blockOf dc low high (16 * m + k)) j
-  block-of m k j x h l e =
+  pub block-of : (m first k j : ℕ) (x : ℤ) → first ≡ 240 * m → k < 16 → j < 16 → x ≡ at (blockIn dc low m) k → coefficients x (λ i. at high (first + 15 * k + i)) j ≡ at (blockOf dc low high (16 * m + k)) j
+  block-of m first k j x f h l e =
       same-number x _ _ _ j (e ∙ ap₂ (λ (a b : ℕ). at (blockIn dc low a) b) (omega arith) (omega arith)) (λ i q. ap (at high) (omega arith)) ∙ sym (block-at (16 * m + k) j l)
 
 -- ---- to the strip
@@ -105,22 +105,22 @@ block-parked i x strip high a x1 x2 x3 room e1 e2 e3 f e =
     let p = placed-next i 2 g (i + 2) refl (omega arith) (e3 ∙ ap (at strip) (omega arith)) (placed-next i 1 g (i + 1) refl (omega arith) (e2 ∙ ap (at strip) (omega arith)) (placed-next i 0 g i (omega arith) (omega arith) (e1 ∙ ap (at strip) (omega arith)) (placed-none i g high))) in
     placed-after i 3 3 4 7 g (at a) g (omega arith) (omega arith) refl (λ k h. refl) (λ k h. f k h ∙ ap (at strip) (omega arith)) p (four-placed (i + 3) a _ (omega (arith, p .len)) e)
 
-pub rest-none : (m b : ℕ) (strip v : List ℤ) → RestParked m b 0 strip v v
-rest-none m b strip v = record { len = refl; own = λ k j h l. absurd (omega arith); others = λ i h. refl }
+pub rest-none : (i b : ℕ) (strip v : List ℤ) → RestParked i b 0 strip v v
+rest-none i b strip v = record { len = refl; own = λ k j h l. absurd (omega arith); others = λ a h. refl }
 
-pub rest-more : (m b n : ℕ) {strip old mid new : List ℤ} → n < 4 → RestParked m b n strip old mid
-    → Placed (240 * m + 15 * n) 7 (λ j. at strip (72 * (16 + (j + 1) / 4) + (16 * b + 4 * n) + (j + 1) % 4)) mid new → RestParked m b (n + 1) strip old new
-rest-more m b n {strip} {old} {mid} {new} low p q = record {
+pub rest-more : (i b n : ℕ) {strip old mid new : List ℤ} → n < 4 → RestParked i b n strip old mid
+    → Placed (i + 15 * n) 7 (λ j. at strip (72 * (16 + (j + 1) / 4) + (16 * b + 4 * n) + (j + 1) % 4)) mid new → RestParked i b (n + 1) strip old new
+rest-more i b n {strip} {old} {mid} {new} low p q = record {
   len = q .len ∙ p .len;
   own = λ k j h l. by-cases (ℕ-discrete k n)
-      (λ e. ap (λ (i : ℕ). at new (240 * m + 15 * i + j)) e ∙ q .own j l ∙ ap (at strip) (omega (arith, e)))
-      (λ o. q .below (240 * m + 15 * k + j) (omega (arith, o)) ∙ p .own k j (omega (arith, o)) l);
-  others = λ i h. by-cases (decLt i (240 * m + 15 * n)) (λ l. q .below i l) (λ l. by-cases (decLt i (240 * m + 15 * n + 7)) (λ o. absurd (h (omega (arith, l)) (omega (arith, o)))) (λ o. q .above i (omega (arith, o)))) ∙ p .others i h;
+      (λ e. ap (λ (a : ℕ). at new (i + 15 * a + j)) e ∙ q .own j l ∙ ap (at strip) (omega (arith, e)))
+      (λ o. q .below (i + 15 * k + j) (omega (arith, o)) ∙ p .own k j (omega (arith, o)) l);
+  others = λ a h. by-cases (decLt a (i + 15 * n)) (λ l. q .below a l) (λ l. by-cases (decLt a (i + 15 * n + 7)) (λ o. absurd (h (omega (arith, l)) (omega (arith, o)))) (λ o. q .above a (omega (arith, o)))) ∙ p .others a h;
 }
 
 -- one more macroblock
 pub macroblocks-parked : (m n : ℕ) (dc low high dc' low' high' : List ℤ) {strip : List ℤ} {blocks : ℕ → List ℤ} → Parked m n strip blocks (blockOf dc low high)
-    → ZerosParked (m + n) n strip (blockIn dc low) (blockIn dc' low') → RestParked (m + n) n 4 strip high high' → Parked m (n + 1) strip blocks (blockOf dc' low' high')
+    → ZerosParked (m + n) n strip (blockIn dc low) (blockIn dc' low') → RestParked (240 * (m + n)) n 4 strip high high' → Parked m (n + 1) strip blocks (blockOf dc' low' high')
 unfolding blockOf
 macroblocks-parked m n dc low high dc' low' high' {strip} {blocks} p z q = record {
   own = λ t b j h e k l. by-cases (ℕ-discrete b n)

@@ -29,8 +29,8 @@ pub record ZerosParked (m b : ℕ) (strip : List ℤ) (old new : ℕ → List �
   pub own : (k : ℕ) → k < 4 → at (new m) k ≡ at strip (1152 + 16 * b + 4 * k)
   pub others : (s : ℕ) → (s ≡ m → ⊥) → new s ≡ old s
 
--- coefficients 1 to 7 of the first n of them
-pub record RestParked (m b n : ℕ) (strip old new : List ℤ) : Type 0 where
+-- coefficients 1 to 7 of the first n of them, in the macroblock's part of the high-pass plane, which begins at place i
+pub record RestParked (i b n : ℕ) (strip old new : List ℤ) : Type 0 where
   pub len : length new ≡ length old
-  pub own : (k j : ℕ) → k < n → j < 7 → at new (240 * m + 15 * k + j) ≡ at strip (placeIn 16 b k (j + 1))
-  pub others : (i : ℕ) → (240 * m ≤ i → i < 240 * m + 240 → ⊥) → at new i ≡ at old i
+  pub own : (k j : ℕ) → k < n → j < 7 → at new (i + 15 * k + j) ≡ at strip (placeIn 16 b k (j + 1))
+  pub others : (a : ℕ) → (i ≤ a → a < i + 240 → ⊥) → at new a ≡ at old a

@@ -6,8 +6,10 @@ ghost use Rattle.lifting.specs.Program.{at as number};
 ghost use Rattle.transform.specs.Grids.{coefficients};
 ghost use Rattle.forward_kernel.specs.Placed.{Placed, blockIn};
 ghost use Rattle.forward_two_cores.specs.Blocks.{blockOf};
+ghost use Rattle.forward_two_cores.specs.Cells.{OfOne};
 ghost use Rattle.forward_two_edges.specs.Strip.{Kept};
 ghost use Rattle.forward_two_parked.specs.Parked.{placeIn, Parked, Fetched, ZerosParked, RestParked};
+use forward_two_cores::cells::Cells;
 use grid::get_four;
 use grid::put_four;
 
@@ -23,41 +25,52 @@ fn fetch_block(zero: i32, high: &[i32], from: usize, strip: &mut [i32], x: usize
     put_four(strip, 1, 72 + x, second);
 }
 
-// The upper four blocks of macroblock m, the b-th of the strip.
-fn fetch_macroblock(dc: &[i32], low: &[i32], high: &[i32], m: usize, b: usize, strip: &mut [i32])
-    requires { ⌜ (m < length (now dc)) × (15 * m + 14 < length (now low)) × (240 * m + 239 < length (now high)) ⌝ }
+// The upper four blocks of the macroblock with these cells, the b-th of the strip.
+fn fetch_macroblock(
+    dc: &[i32],
+    low: &[i32],
+    high: &[i32],
+    cells: Cells,
+    b: usize,
+    strip: &mut [i32],
+)
+    requires { ⌜ OfOne cells ⌝ }
+    requires { ⌜ (cells .dc < length (now dc)) × (cells .low + 14 < length (now low)) × (cells .high + 239 < length (now high)) ⌝ }
     requires { ⌜ (b < 4) × (length (now strip) ≡ 1296) ⌝ }
-    ensures { λ u. ⌜ ((k j : ℕ) → k < 4 → j < 8 → number (now (strip .exit)) (placeIn 0 b k j) ≡ number (blockOf (now (dc .entry)) (now (low .entry)) (now (high .entry)) (16 * m + k)) j) ⌝ }
+    ensures { λ u. ⌜ ((k j : ℕ) → k < 4 → j < 8 → number (now (strip .exit)) (placeIn 0 b k j) ≡ number (blockOf (now (dc .entry)) (now (low .entry)) (now (high .entry)) (16 * cells .dc + k)) j) ⌝ }
     ensures { λ u. ⌜ Kept 0 2 (16 * b) (16 * b + 16) (now (strip .entry)) (now (strip .exit)) ⌝ }
 {
-    let zeros = [dc[m], low[15 * m], low[15 * m + 1], low[15 * m + 2]];
+    let m = cells.dc;
+    let from = cells.low;
+    let zeros = [dc[m], low[from], low[from + 1], low[from + 2]];
     for k in 0..4 {
-        fetch_block(zeros[k], high, 240 * m + 15 * k, strip, 16 * b + 4 * k);
+        fetch_block(zeros[k], high, cells.high + 15 * k, strip, 16 * b + 4 * k);
     }
 }
 
-// The upper blocks of macroblocks m to m + n - 1.
-pub fn fetch(dc: &[i32], low: &[i32], high: &[i32], m: usize, n: usize, strip: &mut [i32])
-    requires { ⌜ (m + n ≤ length (now dc)) × (15 * (m + n) ≤ length (now low)) × (240 * (m + n) ≤ length (now high)) ⌝ }
+// The upper blocks of n macroblocks, of which the first has these cells.
+pub fn fetch(dc: &[i32], low: &[i32], high: &[i32], cells: Cells, n: usize, strip: &mut [i32])
+    requires { ⌜ OfOne cells ⌝ }
+    requires { ⌜ (cells .dc + n ≤ length (now dc)) × (cells .low + 15 * n ≤ length (now low)) × (cells .high + 240 * n ≤ length (now high)) ⌝ }
     requires { ⌜ (n ≤ 4) × (length (now strip) ≡ 1296) ⌝ }
-    ensures { λ u. ⌜ Fetched m n (blockOf (now (dc .entry)) (now (low .entry)) (now (high .entry))) (now (strip .exit)) ⌝ }
+    ensures { λ u. ⌜ Fetched (cells .dc) n (blockOf (now (dc .entry)) (now (low .entry)) (now (high .entry))) (now (strip .exit)) ⌝ }
     ensures { λ u. ⌜ Kept 0 2 0 (16 * n) (now (strip .entry)) (now (strip .exit)) ⌝ }
 {
     for b in 0..n {
-        fetch_macroblock(dc, low, high, m + b, b, strip);
+        fetch_macroblock(dc, low, high, cells.after(b), b, strip);
     }
 }
 
-fn park_zeros(dc: &mut [i32], low: &mut [i32], m: usize, strip: &[i32], b: usize)
-    requires { ⌜ (m < length (now dc)) × (15 * m + 14 < length (now low)) ⌝ }
+fn park_zeros(dc: &mut [i32], low: &mut [i32], m: usize, from: usize, strip: &[i32], b: usize)
+    requires { ⌜ (m < length (now dc)) × (from + 14 < length (now low)) × (from ≡ 15 * m) ⌝ }
     requires { ⌜ (b < 4) × (length (now strip) ≡ 1296) ⌝ }
     ensures { λ u. ⌜ ZerosParked m b (now (strip .entry)) (blockIn (now (dc .entry)) (now (low .entry))) (blockIn (now (dc .exit)) (now (low .exit))) ⌝ }
 {
     let x = 1152 + 16 * b;
     dc[m] = strip[x];
-    low[15 * m] = strip[x + 4];
-    low[15 * m + 1] = strip[x + 8];
-    low[15 * m + 2] = strip[x + 12];
+    low[from] = strip[x + 4];
+    low[from + 1] = strip[x + 8];
+    low[from + 2] = strip[x + 12];
 }
 
 // Coefficients 1 to 7 of a block from two rows of the strip, from column x on.
@@ -71,24 +84,33 @@ fn park_block(high: &mut [i32], from: usize, strip: &[i32], x: usize)
     put_four(high, 1, from + 3, get_four(strip, 1, 1224 + x));
 }
 
-fn park_rest(high: &mut [i32], m: usize, strip: &[i32], b: usize)
-    requires { ⌜ 240 * m + 239 < length (now high) ⌝ }
+fn park_rest(high: &mut [i32], from: usize, strip: &[i32], b: usize)
+    requires { ⌜ from + 239 < length (now high) ⌝ }
     requires { ⌜ (b < 4) × (length (now strip) ≡ 1296) ⌝ }
-    ensures { λ u. ⌜ RestParked m b 4 (now (strip .entry)) (now (high .entry)) (now (high .exit)) ⌝ }
+    ensures { λ u. ⌜ RestParked from b 4 (now (strip .entry)) (now (high .entry)) (now (high .exit)) ⌝ }
 {
     for k in 0..4 {
-        park_block(high, 240 * m + 15 * k, strip, 16 * b + 4 * k);
+        park_block(high, from + 15 * k, strip, 16 * b + 4 * k);
     }
 }
 
-// Rows 16 and 17 to the upper blocks of macroblocks m to m + n - 1.
-pub fn park(dc: &mut [i32], low: &mut [i32], high: &mut [i32], m: usize, n: usize, strip: &[i32])
-    requires { ⌜ (m + n ≤ length (now dc)) × (15 * (m + n) ≤ length (now low)) × (240 * (m + n) ≤ length (now high)) ⌝ }
+// Rows 16 and 17 to the upper blocks of n macroblocks, of which the first has these cells.
+pub fn park(
+    dc: &mut [i32],
+    low: &mut [i32],
+    high: &mut [i32],
+    cells: Cells,
+    n: usize,
+    strip: &[i32],
+)
+    requires { ⌜ OfOne cells ⌝ }
+    requires { ⌜ (cells .dc + n ≤ length (now dc)) × (cells .low + 15 * n ≤ length (now low)) × (cells .high + 240 * n ≤ length (now high)) ⌝ }
     requires { ⌜ (n ≤ 4) × (length (now strip) ≡ 1296) ⌝ }
-    ensures { λ u. ⌜ Parked m n (now (strip .entry)) (blockOf (now (dc .entry)) (now (low .entry)) (now (high .entry))) (blockOf (now (dc .exit)) (now (low .exit)) (now (high .exit))) ⌝ }
+    ensures { λ u. ⌜ Parked (cells .dc) n (now (strip .entry)) (blockOf (now (dc .entry)) (now (low .entry)) (now (high .entry))) (blockOf (now (dc .exit)) (now (low .exit)) (now (high .exit))) ⌝ }
 {
     for b in 0..n {
-        park_zeros(dc, low, m + b, strip, b);
-        park_rest(high, m + b, strip, b);
+        let own = cells.after(b);
+        park_zeros(dc, low, own.dc, own.low, strip, b);
+        park_rest(high, own.high, strip, b);
     }
 }

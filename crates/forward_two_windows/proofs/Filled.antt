@@ -15,8 +15,8 @@ use Rattle.forward_two_edges.specs.Unfiltered.{unfiltered}
 use Rattle.forward_two_edges.specs.Strip.{Holds, Kept}
 use Rattle.forward_two_edges.proofs.Numbers.{window-at}
 
-module _ (size : Size) (samples : List ℤ) (len : length samples ≡ 256 * macroblocks size) (r c v l a : ℕ) {old new : List ℤ} (low : 4 * r + v + 1 < 4 * size .height .0)
-    (few : l ≤ 12) (place : a ≡ (16 * r + 4 * v + 2) * (16 * size .width .0) + 16 * c + 4 * l + 2) (d : Windows samples (16 * size .width .0) a (288 * v + 4 * l + 146) old new) where
+module _ (size : Size) (samples : List ℤ) (len : length samples ≡ 256 * macroblocks size) (r c v l a i : ℕ) {old new : List ℤ} (low : 4 * r + v + 1 < 4 * size .height .0)
+    (few : l ≤ 12) (place : a ≡ (16 * r + 4 * v + 2) * (16 * size .width .0) + 16 * c + 4 * l + 2) (to : i ≡ 72 * (4 * v + 2) + 4 * l + 2) (d : Windows samples (16 * size .width .0) a i old new) where
   abbrev W : ℕ
   W = size .width .0
 
@@ -30,11 +30,11 @@ module _ (size : Size) (samples : List ℤ) (len : length samples ≡ 256 * macr
         let s = y - (4 * v + 2) in
         let b = x - (4 * l + 2) in
         let j = 4 * r + v in
-        let i = 4 * c + l + b / 4 in
+        let u = 4 * c + l + b / 4 in
         let n = 4 * s + b % 4 in
         ap (at new) (omega arith) ∙ d .own s b (omega arith) (omega arith)
         ∙ ap₂ (λ (w z : ℕ). at (undo squareFilter (get (square w z) samples)) n) (omega arith) (omega (arith, place))
-        ∙ sym (window-at (4 * W) (4 * H) samples (len ∙ omega arith) j i n (omega arith) (omega arith) (omega arith))
+        ∙ sym (window-at (4 * W) (4 * H) samples (len ∙ omega arith) j u n (omega arith) (omega arith) (omega arith))
         ∙ ap₂ (λ (z w : ℕ). at (undo (filters (4 * W) (4 * H)) samples) (cell (4 * W) z w)) (omega arith) (omega arith);
   }
 

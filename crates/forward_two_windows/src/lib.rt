@@ -1,24 +1,24 @@
 // The windows of level two in the strip: the filters over the corners that four blocks share, undone from the samples.
 ghost use mathlib.Core.Path.{_≡_};
 ghost use Prim.Native.Nat.{ℕ, _+_, _*_, _<_, _≤_};
-ghost use Rattle.transform.specs.Level.{cell};
-ghost use Rattle.forward_two_edges.specs.Strip.{Holds, Kept, Given};
+ghost use Rattle.forward_two_edges.specs.Strip.{Holds, Kept, Given, Stands};
 use forward_four_windows::undo_four_windows;
+use forward_two_edges::place::Place;
 use picture::size::Size;
 
-// Four windows of window row v, from window l on; the row's first sample is at place `at`. Where the picture ends sooner, those that it has are right, and no sample outside it is read.
+// Four windows of window row v, from window l on; the row begins at place `at`. Where the picture ends sooner, those that it has are right, and no sample outside it is read.
 fn windows_at(
     size: Size,
     r: usize,
     c: usize,
     samples: &[i32],
-    at: usize,
+    at: Place,
     v: usize,
     l: usize,
     strip: &mut [i32],
 )
     requires { ⌜ Given size r c (now samples) (now strip) ⌝ }
-    requires { ⌜ at ≡ cell (4 * size .width .0) (16 * r + 4 * v + 2) (16 * c) ⌝ }
+    requires { ⌜ Stands size r c (4 * v + 2) 0 at ⌝ }
     requires { ⌜ (v < 4) × (l ≤ 12) ⌝ }
     requires { ⌜ (4 * r + v + 1 < 4 * size .height .0) × (4 * c + l + 1 < 4 * size .width .0) ⌝ }
     ensures { λ u. ⌜ ((k : ℕ) → k ≤ 4 * l + 18 → 16 * c + k + 2 ≤ 16 * size .width .0 → Holds size (now (samples .entry)) r c (4 * v + 2) (4 * v + 6) (4 * l + 2) k (now (strip .exit))) ⌝ }
@@ -26,7 +26,13 @@ fn windows_at(
 {
     let across = size.width.0 as usize;
     let w = 16 * across;
-    undo_four_windows(samples, w, at + 4 * l + 2, strip, 288 * v + 4 * l + 146);
+    undo_four_windows(
+        samples,
+        w,
+        at.samples + 4 * l + 2,
+        strip,
+        at.strip + 4 * l + 2,
+    );
 }
 
 // n windows of window row v, four at a time: the last four may have some that the picture has not, in columns that nobody reads.
@@ -35,13 +41,13 @@ fn window_row(
     r: usize,
     c: usize,
     samples: &[i32],
-    at: usize,
+    at: Place,
     v: usize,
     n: usize,
     strip: &mut [i32],
 )
     requires { ⌜ Given size r c (now samples) (now strip) ⌝ }
-    requires { ⌜ at ≡ cell (4 * size .width .0) (16 * r + 4 * v + 2) (16 * c) ⌝ }
+    requires { ⌜ Stands size r c (4 * v + 2) 0 at ⌝ }
     requires { ⌜ (v < 4) × (n ≤ 16) ⌝ }
     requires { ⌜ (4 * r + v + 1 < 4 * size .height .0) × (4 * c + n < 4 * size .width .0) ⌝ }
     ensures { λ u. ⌜ Holds size (now (samples .entry)) r c (4 * v + 2) (4 * v + 6) 2 (4 * n + 2) (now (strip .exit)) ⌝ }
@@ -60,24 +66,24 @@ pub fn windows(
     r: usize,
     c: usize,
     samples: &[i32],
-    at: usize,
+    at: Place,
     down: usize,
     n: usize,
     strip: &mut [i32],
-) -> usize
+) -> Place
     requires { ⌜ Given size r c (now samples) (now strip) ⌝ }
-    requires { ⌜ at ≡ cell (4 * size .width .0) (16 * r + 2) (16 * c) ⌝ }
+    requires { ⌜ Stands size r c 2 0 at ⌝ }
     requires { ⌜ (down ≤ 4) × (n ≤ 16) ⌝ }
     requires { ⌜ (4 * r + down < 4 * size .height .0) × (4 * c + n < 4 * size .width .0) ⌝ }
     ensures { λ u. ⌜ Holds size (now (samples .entry)) r c 2 (4 * down + 2) 2 (4 * n + 2) (now (strip .exit)) ⌝ }
     ensures { λ u. ⌜ Kept 2 (4 * down + 2) 2 72 (now (strip .entry)) (now (strip .exit)) ⌝ }
-    ensures { λ u. ⌜ u ≡ cell (4 * size .width .0) (16 * r + (4 * down + 2)) (16 * c) ⌝ }
+    ensures { λ u. ⌜ Stands size r c (4 * down + 2) 0 u ⌝ }
 {
     let across = size.width.0 as usize;
     let mut row = at;
     for v in 0..down {
         window_row(size, r, c, samples, row, v, n, strip);
-        row += 64 * across;
+        row = row.below(4, 16 * across);
     }
     row
 }

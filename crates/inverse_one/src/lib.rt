@@ -31,10 +31,19 @@ fn put_coefficients(grid: &mut [i32], w: usize, at: usize, first: i32, rest: &[i
     put_square(grid, w, at, [top, second, third, fourth]);
 }
 
-// Row r of the macroblocks, which begins at place `at` of the grid and with macroblock m of the planes.
-fn grid_row(view: &mut [i32], size: Size, r: usize, at: usize, dc: &[i32], low: &[i32], m: usize)
+// Row r of the macroblocks, which begins at place `at` of the grid and with macroblock m of the planes; its low-pass numbers stand from `from` on.
+fn grid_row(
+    view: &mut [i32],
+    size: Size,
+    r: usize,
+    at: usize,
+    dc: &[i32],
+    low: &[i32],
+    m: usize,
+    from: usize,
+)
     requires { ⌜ Sized size × (r < size .height .0) ⌝ }
-    requires { ⌜ (at ≡ r * (16 * size .width .0)) × (m ≡ r * size .width .0) ⌝ }
+    requires { ⌜ (at ≡ r * (16 * size .width .0)) × (m ≡ r * size .width .0) × (from ≡ r * (15 * size .width .0)) ⌝ }
     requires { ⌜ length (now view) ≡ 16 * macroblocks size ⌝ }
     requires { ⌜ (length (now dc) ≡ macroblocks size) × (length (now low) ≡ 15 * macroblocks size) ⌝ }
     ensures { λ o. ⌜ Filled (size .width .0) (planeNumbers (now (dc .entry)) (now (low .entry))) (now (view .entry)) (Between m (m + size .width .0)) (now (view .exit)) ⌝ }
@@ -42,7 +51,7 @@ fn grid_row(view: &mut [i32], size: Size, r: usize, at: usize, dc: &[i32], low: 
     let p = size.width.0 as usize;
     let w = 4 * p;
     for c in 0..p {
-        put_coefficients(view, w, at + 4 * c, dc[m + c], low, 15 * (m + c));
+        put_coefficients(view, w, at + 4 * c, dc[m + c], low, from + 15 * c);
     }
 }
 
@@ -55,13 +64,15 @@ fn first_grid(view: &mut [i32], size: Size, dc: &[i32], low: &[i32])
 {
     let across = size.width.0 as usize;
     let down = size.height.0 as usize;
-    let w = 4 * across;
+    let w = size.blocks().width.0 as usize;
     let mut at = 0;
     let mut m = 0;
+    let mut from = 0;
     for r in 0..down {
-        grid_row(view, size, r, at, dc, low, m);
+        grid_row(view, size, r, at, dc, low, m, from);
         at += 4 * w;
         m += across;
+        from += 15 * across;
     }
 }
 

@@ -160,7 +160,7 @@ pub fn level_two(samples: &mut [i32], filtered: bool, size: Size, high: &[i32]) 
     ensures { λ o. ⌜ (o ≡ false → Within 33554432 (now (high .entry))) ⌝ }
 {
     let width = size.width.0 as usize;
-    let w = 16 * width;
+    let w = size.samples().width.0 as usize;
     let across = 4 * width;
     let down = 4 * (size.height.0 as usize);
     let mut at = samples.len();

@@ -14,9 +14,9 @@ returns c =
     let c3 = c4 .before in
     let c2 = c3 .before in
     let c1 = c2 .before in
-    square-rows _ _ _ _ _ _ (record { sfits = c1 .t11 .given }) (c2 .t14 .given) (c3 .t18 .given) (c4 .t22 .given) (g1 .get-four .ensures) (g2 .get-four2 .ensures) (c .get-four3 .ensures)
+    rw (← c1 .before .pre .1) (square-rows _ _ _ _ _ _ (record { sfits = c1 .t11 .given }) (c2 .t14 .given) (c3 .t18 .given) (c4 .t22 .given) (g1 .get-four .ensures) (g2 .get-four2 .ensures) (c .get-four3 .ensures))
 
 pub get-block-spec : {M : Type 1} → statement M
 get-block-spec =
     tie.close
-    (tie.spec (λ c. search needs) (λ c. search needs) (λ c. search needs) (λ c. search needs) (λ c. search needs) (λ c. search needs) (λ c. search needs) (λ c. search needs) (λ c. search needs) (λ c. search needs) (λ c. search needs) (λ c. search needs) (λ c κs. search needs) (λ c. search needs) (λ c κs. search needs) (λ c. search needs) (λ c κs. search needs) returns)
+    (tie.spec (λ c. search needs) (λ c. search needs) (λ c. search needs) (λ c. search needs) (λ c. search needs) (λ c. search needs) (λ c. search needs) (λ c. search needs) (λ c. search needs) (λ c. search needs) (λ c. search needs) (λ c κs. search needs) (λ c. search needs) (λ c κs. search needs) (λ c. search needs) (λ c κs. search needs) returns)

@@ -10,10 +10,10 @@ use Rattle.forward_one_cores.proofs.get_blocks.Statement.{statement}
 use Rattle.forward_one_cores.proofs.get_blocks.Tie as tie
 
 abbrev Inv-loop : tie.InvT-loop
-Inv-loop dc low t n held₀ l₀ held l = (l ≤ n) × (length held ≡ 64) × Beside (λ m. blockIn dc low (t + m)) l held
+Inv-loop dc low t from n held₀ l₀ held l = (l ≤ n) × (length held ≡ 64) × Beside (λ m. blockIn dc low (t + m)) l held
 
 abbrev μ-loop : tie.MeasureT-loop
-μ-loop dc low t n held₀ l₀ held l = n - l
+μ-loop dc low t from n held₀ l₀ held l = n - l
 
 loop-again : tie.Need-loop-again Inv-loop μ-loop
 loop-again c =
@@ -26,6 +26,6 @@ loop-again c =
 pub get-blocks-spec : {M : Type 1} → statement M
 get-blocks-spec =
     tie.close
-    (tie.spec Inv-loop μ-loop (λ c. (omega arith, c .pre .1 .1, λ l h. absurd (omega (arith, h)))) (λ c. omega arith) (λ c. omega arith)
-    (λ c κs. let s = c .before .before .before in let r = s .pre .0 in record { of-dc = omega arith; of-low = omega arith }) (λ c κs. omega arith) (λ c. omega arith) (λ c. omega arith) loop-again
+    (tie.spec Inv-loop μ-loop (λ c. (omega arith, c .pre .1 .1, λ l h. absurd (omega (arith, h)))) (λ c. omega arith) (λ c. omega arith) (λ c. omega arith) (λ c. omega arith)
+    (λ c κs. let s = c .before .before .before in let r = s .pre .0 .0 in (record { of-dc = omega arith; of-low = omega arith }, omega (arith, s .pre .0 .1))) (λ c κs. omega arith) (λ c. omega arith) (λ c. omega arith) loop-again
     (λ c. c .before .loop .inv .1 ∙ sym (c .before .before .pre .1 .1)) (λ c. λ l h. c .before .loop .inv .2 l (omega (arith, h))))

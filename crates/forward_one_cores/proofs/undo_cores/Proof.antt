@@ -1,5 +1,5 @@
 -- One group after another: the macroblocks before the next are undone, the others as they were.
-use Prim.Native.Nat.{_+_, _-_, _≤_}
+use Prim.Native.Nat.{_+_, _-_, _*_, _≤_}
 use mathlib.Core.Path.{_≡_, refl, _∙_}
 use native.Mathlib.Omega.{arith}
 use lib.ListN.{length}
@@ -13,12 +13,12 @@ use Rattle.forward_one_cores.proofs.undo_cores.Statement.{statement}
 use Rattle.forward_one_cores.proofs.undo_cores.Tie as tie
 
 abbrev Inv-loop : tie.InvT-loop
-Inv-loop dc₀ low₀ all t₀ dc low t =
+Inv-loop dc₀ low₀ all t₀ from₀ dc low t from =
     (t ≤ all) × (length dc ≡ length dc₀) × (length low ≡ length low₀)
-    × Replaced 0 t (λ s. undo core (blockIn dc₀ low₀ s)) (blockIn dc₀ low₀) (blockIn dc low)
+    × Replaced 0 t (λ s. undo core (blockIn dc₀ low₀ s)) (blockIn dc₀ low₀) (blockIn dc low) × (from ≡ 15 * t)
 
 abbrev μ-loop : tie.MeasureT-loop
-μ-loop dc₀ low₀ all t₀ dc low t = all - t
+μ-loop dc₀ low₀ all t₀ from₀ dc low t from = all - t
 
 asked : tie.Need-undo-group-requires Inv-loop μ-loop
 asked c κs =
@@ -27,7 +27,7 @@ asked c κs =
     let p = l .before .pre in
     let v = l .loop .inv in
     let m = g .group .ensures in
-    (record { of-dc = omega (arith, v .1, m .1); of-low = omega (arith, v .2, m .1, p) }, omega (arith, m .0))
+    ((record { of-dc = omega (arith, v .1, m .1); of-low = omega (arith, v .2, m .1, p) }, v .4), omega (arith, m .0))
 
 loop-again : tie.Need-loop-again Inv-loop μ-loop
 loop-again c =
@@ -40,6 +40,7 @@ loop-again c =
       k .0 ∙ v .1,
       k .1 .0 ∙ v .2,
       replaced-in-place (undo core) (v .3) (replaced-as (0 + l .loop .t) _ _ (omega arith) refl (λ s h m. refl) (d .undo-group .ensures)),
+      omega (arith, v .4),
     )
 
 returns : tie.Need-returns Inv-loop μ-loop
@@ -52,7 +53,9 @@ returns c =
 pub undo-cores-spec : {M : Type 1} → statement M
 undo-cores-spec =
     tie.close
-    (tie.spec Inv-loop μ-loop (λ c. (omega arith, refl, refl, replaced-none _ _ _)) (λ c. omega arith) (λ c κs. tt) asked
+    (tie.spec Inv-loop μ-loop (λ c. (omega arith, refl, refl, replaced-none _ _ _, omega arith)) (λ c. omega arith) (λ c κs. tt) asked
     (λ c. let g = c .before .before .before .before .before in omega (arith, g .group .ensures .1))
+    (λ c. let g = c .before .before .before .before .before in omega (arith, g .group .ensures .0))
+    (λ c. let g = c .before .before .before .before .before in omega (arith, g .group .ensures .1, g .before .before .loop .inv .4))
     (λ c. let g = c .before .before .before .before .before in omega (arith, g .group .ensures .1, g .group .ensures .2 (omega arith))) loop-again
     (λ c. c .before .loop .inv .1) (λ c. c .before .loop .inv .2) returns)

@@ -1,5 +1,5 @@
 -- Row after row.
-use Prim.Native.Nat.{_-_, _≤_}
+use Prim.Native.Nat.{_-_, _*_, _≤_}
 use mathlib.Core.Path.{_≡_, _∙_}
 use native.Mathlib.Omega.{arith}
 use lib.ListN.{length, length-set}
@@ -11,16 +11,16 @@ use Rattle.forward_two.proofs.carry.Statement.{statement}
 use Rattle.forward_two.proofs.carry.Tie as tie
 
 abbrev Inv-loop : tie.InvT-loop
-Inv-loop strip₀ y₀ strip y = (y ≤ 18) × CarriedUpTo y strip₀ strip × Kept 0 18 0 2 strip₀ strip
+Inv-loop strip₀ row₀ y₀ strip row y = (y ≤ 18) × CarriedUpTo y strip₀ strip × Kept 0 18 0 2 strip₀ strip × (row ≡ 72 * y)
 
 abbrev μ-loop : tie.MeasureT-loop
-μ-loop strip₀ y₀ strip y = 18 - y
+μ-loop strip₀ row₀ y₀ strip row y = 18 - y
 
 long : (c : tie.At-loop Inv-loop μ-loop) → length (c .loop .strip) ≡ 1296
 long c = c .loop .inv .2 .len ∙ c .before .pre
 
 loop-holds : tie.Need-loop-holds Inv-loop μ-loop
-loop-holds c = (omega arith, λ y x h l. absurd (omega arith), kept-none 0 18 0 2 (c .args .strip .now))
+loop-holds c = (omega arith, λ y x h l. absurd (omega arith), kept-none 0 18 0 2 (c .args .strip .now), omega arith)
 
 slice-copy-out-strip : tie.Need-slice-copy-out-strip Inv-loop μ-loop
 slice-copy-out-strip c = omega (arith, long (c .before))
@@ -39,8 +39,8 @@ loop-again c =
     let one = c .before in
     let l = one .before .before in
     let v = l .loop .inv in
-    let e = carry-more (l .loop .y) (l .before .args .strip .now) (l .loop .strip) _ _ (omega arith) (long l) (back (one .strip .given)) (back (c .strip2 .given)) (v .1) (v .2) in
-    (omega arith, e .0, e .1)
+    let e = carry-more (l .loop .y) (l .loop .row) (l .before .args .strip .now) (l .loop .strip) _ _ (v .3) (omega arith) (long l) (back (one .strip .given)) (back (c .strip2 .given)) (v .1) (v .2) in
+    (omega arith, e .0, e .1, omega (arith, v .3))
 
 same-length : tie.Need-same-length Inv-loop μ-loop
 same-length c = c .before .loop .inv .2 .len
@@ -51,4 +51,4 @@ returns c = let l = c .before in (λ y x h k. l .loop .inv .1 y x (omega arith) 
 pub carry-spec : {M : Type 1} → statement M
 carry-spec =
     tie.close
-    (tie.spec Inv-loop μ-loop loop-holds (λ c. omega arith) (λ c. omega arith) (λ c. omega arith) slice-copy-out-strip (λ c. omega arith) (λ c. omega arith) slice-set-from-strip (λ c. omega arith) (λ c. omega arith) (λ c. omega arith) slice-copy-out-strip-2 (λ c. omega arith) (λ c. omega arith) (λ c. omega arith) slice-set-from-strip-2 (λ c. omega arith) (λ c. omega arith) loop-again same-length returns)
+    (tie.spec Inv-loop μ-loop loop-holds (λ c. omega arith) (λ c. omega arith) slice-copy-out-strip (λ c. omega arith) slice-set-from-strip (λ c. omega arith) (λ c. omega arith) slice-copy-out-strip-2 (λ c. omega arith) (λ c. omega arith) slice-set-from-strip-2 (λ c. omega arith) (λ c. omega arith) (λ c. omega arith) loop-again same-length returns)

@@ -22,7 +22,8 @@ fetch-requires c κs =
     let s = c .before .before in
     let a = s .args in
     let h = s .pre .1 in
-    (group-inside (a .size) (a .r) (a .c) (a .n) (a .m) (h .1 .1 .1 .0) (s .pre .0 .below) (h .1 .0 .2) (h .0), (h .1 .0 .1, s .pre .0 .of-strip))
+    let m = h .1 .1 .1 .0 in
+    (m .1, (group-inside (a .size) (a .r) (a .c) (a .n) (a .cells) (m .0) (m .1) (s .pre .0 .below) (h .1 .0 .2) (h .0), (h .1 .0 .1, s .pre .0 .of-strip)))
 
 returns-2 : tie.Need-returns-2
 returns-2 c =
@@ -35,7 +36,7 @@ returns-2 c =
     let h = s .pre .1 .1 .1 in
     let two = not-first (a .first) (a .r) (h .0) (omega (arith, t .if1)) in
     let e = d .fetch .ensures in
-    let both = rows-fetched (a .size) (a .samples .now) (g .sized .wide) (a .r) (a .c) (a .n) (g .below) (k .2) (blockOf (a .dc .now) (a .low .now) (a .high .now)) (a .m) (h .1 .0) (two .1) (k .1) (h .1 .1 .1) (e .0) (e .1)
+    let both = rows-fetched (a .size) (a .samples .now) (g .sized .wide) (a .r) (a .c) (a .n) (g .below) (k .2) (blockOf (a .dc .now) (a .low .now) (a .high .now)) (a .cells .dc) (h .1 .0 .0) (two .1) (k .1) (h .1 .1 .1) (e .0) (e .1)
     (holds-as (a .r) (a .c) 2 18 0 (16 * a .n + 2) (omega (arith, two)) (omega arith) (omega arith) (omega arith) (h .1 .1 .0)) in
     (both .0, (holds-as (a .r) (a .c) (a .first) 18 0 (16 * a .n + 2) (omega (arith, two)) (omega arith) (omega arith) (omega arith) (both .1), e .1 .len ∙ g .of-strip))
 

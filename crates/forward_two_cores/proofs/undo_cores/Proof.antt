@@ -14,6 +14,7 @@ use Rattle.picture.proofs.CheckLaws.{few-macroblocks}
 use Rattle.grid.proofs.Rows.{row-inside}
 use Rattle.large_numbers.specs.Small.{Small}
 use Rattle.large_numbers.proofs.Small.{neither, small-none, small-up-to, small-part, small-within}
+use Rattle.forward_two_cores.specs.Cells.{OfOne}
 use Rattle.forward_two_cores.specs.Blocks.{blockOf, squareIn, Among, Replaced}
 use Rattle.forward_two_cores.proofs.Stores.{among-none, among-as, among-more}
 use Rattle.forward_two_cores.proofs.Whole.{sample-block, second-undone}
@@ -21,21 +22,21 @@ use Rattle.forward_two_cores.proofs.undo_cores.Statement.{statement}
 use Rattle.forward_two_cores.proofs.undo_cores.Tie as tie
 
 abbrev Inv-loop : tie.InvT-loop
-Inv-loop size samples dc₀ low₀ high₀ across down w at₀ m₀ large₀ r₀ dc low high at m large r =
+Inv-loop size samples dc₀ low₀ high₀ across down w at₀ cells₀ large₀ r₀ dc low high at cells large r =
     let W = size .width .0 in
     (r ≤ down) × (length dc ≡ length dc₀) × (length low ≡ length low₀) × (length high ≡ length high₀)
     × Replaced (Among 0 (r * W)) (λ t. undo core (squareIn W samples t)) (blockOf dc₀ low₀ high₀) (blockOf dc low high)
-    × (at ≡ r * (256 * W)) × (m ≡ r * W) × (large ≡ false → Small samples 0 at)
+    × (at ≡ r * (256 * W)) × (cells .dc ≡ r * W) × OfOne cells × (large ≡ false → Small samples 0 at)
 
 abbrev μ-loop : tie.MeasureT-loop
-μ-loop size samples dc₀ low₀ high₀ across down w at₀ m₀ large₀ r₀ dc low high at m large r = down - r
+μ-loop size samples dc₀ low₀ high₀ across down w at₀ cells₀ large₀ r₀ dc low high at cells large r = down - r
 
 -- the row ends in the picture, which is small
-inside : (c : tie.In-loop Inv-loop μ-loop) → let l = c .before in let a = l .before .before .before .args in let W = a .size .width .0 in
-    (l .loop .at + 256 * W ≤ 256 * (W * a .size .height .0)) × (l .loop .m + W ≤ W * a .size .height .0) × (W * a .size .height .0 ≤ 216825)
+inside : (c : tie.In-loop Inv-loop μ-loop) → let l = c .before in let a = l .before .before .before .before .before .args in let W = a .size .width .0 in
+    (l .loop .at + 256 * W ≤ 256 * (W * a .size .height .0)) × (l .loop .cells .dc + W ≤ W * a .size .height .0) × (W * a .size .height .0 ≤ 216825)
 inside c =
     let l = c .before in
-    let s = l .before .before .before in
+    let s = l .before .before .before .before .before in
     let W = s .args .size .width .0 in
     let H = s .args .size .height .0 in
     let h = row-inside (l .loop .r) H W (omega arith) in
@@ -46,27 +47,28 @@ abbrev turn : tie.After-high Inv-loop μ-loop → tie.In-loop Inv-loop μ-loop
 turn c = c .before .before .before .before .before .before .before
 
 loop-holds : tie.Need-loop-holds Inv-loop μ-loop
-loop-holds c = (omega arith, refl, refl, refl, among-as _ 0 (0 * c .before .before .args .size .width .0) refl (omega arith) (among-none 0 _ _), omega arith, omega arith, λ e. small-none (c .before .before .args .samples .now) (omega arith))
+loop-holds c = (omega arith, refl, refl, refl, among-as _ 0 (0 * c .before .before .before .before .args .size .width .0) refl (omega arith) (among-none 0 _ _), omega arith, omega arith, (omega arith, omega arith), λ e. small-none (c .before .before .before .before .args .samples .now) (omega arith))
 
 undo-row-requires : tie.Need-undo-row-requires Inv-loop μ-loop
 undo-row-requires c κs =
     let l = c .before .before .before .before in
-    let s = l .before .before .before in
+    let s = l .before .before .before .before .before in
     let v = l .loop .inv in
     let n = s .pre .1 .1 in
-    ((s .pre .0, omega arith), ((v .5, v .6), (s .pre .1 .0, (omega (arith, n), omega (arith, n), omega (arith, n)))))
+    ((s .pre .0, omega arith), ((v .5, v .6, v .7), (s .pre .1 .0, (omega (arith, n), omega (arith, n), omega (arith, n)))))
 
 -- its samples were looked at
 some-large-requires : tie.Need-some-large-requires Inv-loop μ-loop
-some-large-requires c κs = omega (arith, inside (turn c), (turn c) .before .before .before .before .pre .1 .0)
+some-large-requires c κs = omega (arith, inside (turn c), (turn c) .before .before .before .before .before .before .pre .1 .0)
 
 loop-again : tie.Need-loop-again Inv-loop μ-loop
 loop-again c =
-    let h = c .before in
+    let look = c .before in
+    let h = look .before in
     let d = h .before .before .before in
     let l = d .before .before .before .before .before in
     let v = l .loop .inv in
-    let a = l .before .before .before .args in
+    let a = l .before .before .before .before .before .args in
     let W = a .size .width .0 in
     let r = l .loop .r in
     let f : ℕ → List ℤ = λ t. undo core (squareIn W (a .samples .now) t) in (
@@ -76,8 +78,9 @@ loop-again c =
       omega arith,
       among-as f 0 ((r + 1) * W) refl (omega arith) (among-more f 0 (r * W) (r * W + W) (omega arith) (omega arith) (v .4) (d .undo-row .ensures)),
       omega (arith, v .5),
-      omega (arith, v .6),
-      neither (small-up-to (a .samples .now) (omega arith) (omega arith)) (v .7) (c .some-large .ensures .0),
+      omega (arith, v .6, c .after .ensures .0),
+      c .after .ensures .1,
+      neither (small-up-to (a .samples .now) (omega arith) (omega arith)) (v .8) (look .some-large .ensures .0),
     )
 
 same-length : tie.Need-same-length Inv-loop μ-loop
@@ -92,7 +95,7 @@ same-length-3 c = c .before .loop .inv .3
 returns : tie.Need-returns Inv-loop μ-loop
 returns c =
     let l = c .before in
-    let s = l .before .before .before in
+    let s = l .before .before .before .before .before in
     let a = s .args in
     let W = a .size .width .0 in
     let H = a .size .height .0 in
@@ -102,13 +105,13 @@ returns c =
     let most : l .loop .r * W ≡ W * H = rw all (omega arith) in (
       second-undone wide H tall (squareIn W (a .samples .now)) (l .loop .dc) (l .loop .low) (l .loop .high) (a .samples .now) (s .pre .1 .0)
           (λ b h. sample-block wide H tall (a .samples .now) b) (λ t h. l .loop .inv .4 .own t (omega arith, omega (arith, most))),
-      λ e. small-within (a .samples .now) (small-part (a .samples .now) (l .loop .inv .7 e) (omega arith) (omega (arith, most, l .loop .inv .5, s .pre .1 .0))),
+      λ e. small-within (a .samples .now) (small-part (a .samples .now) (l .loop .inv .8 e) (omega arith) (omega (arith, most, l .loop .inv .5, s .pre .1 .0))),
     )
 
 pub undo-cores-spec : {M : Type 1} → statement M
 undo-cores-spec =
     tie.close
-    (tie.spec Inv-loop μ-loop (λ c. search needs) (λ c. search needs) (λ c. search needs) loop-holds undo-row-requires
+    (tie.spec Inv-loop μ-loop (λ c. search needs) (λ c. search needs) (λ c κs. search needs) (λ c. search needs) loop-holds undo-row-requires
     (λ c. omega (arith, inside (turn c))) some-large-requires
-    (λ c. omega (arith, inside (turn (c .before)))) (λ c. omega (arith, inside (turn (c .before)))) (λ c. omega (arith, inside (turn (c .before))))
+    (λ c. omega (arith, inside (turn (c .before)))) (λ c. omega (arith, inside (turn (c .before)))) (λ c κs. (turn (c .before) .before .loop .inv .7, omega (arith, inside (turn (c .before)))))
     (λ c. omega arith) (λ c. omega arith) loop-again same-length same-length-2 same-length-3 returns)

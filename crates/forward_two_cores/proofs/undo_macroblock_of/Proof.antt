@@ -9,10 +9,11 @@ returns : tie.Need-returns
 returns c =
     let u = c .before .before .before in
     let t = u .before .before .before .before .before in
-    let a = t .before .before .args in
+    let s = t .before .before in
+    let a = s .args in
     let e = u .undo-macroblock .ensures in
-    record { own = e .own; others = λ b n. e .others b n ∙ other-blocks (a .dc .now) (a .low .now) (a .m) (t .touch .ensures) b n }
+    record { own = e .own; others = λ b n. e .others b n ∙ other-blocks (a .dc .now) (a .low .now) (a .cells .dc) (rw (s .pre .1 .0 .1) at (t .touch .ensures)) b n }
 
 pub undo-macroblock-of-spec : {M : Type 1} → statement M
 undo-macroblock-of-spec =
-    tie.close (tie.spec (λ c. search needs) (λ c κs. search needs) (λ c κs. search needs) (λ c. search needs) (λ c. search needs) (λ c. search needs) returns)
+    tie.close (tie.spec (λ c κs. search needs) (λ c κs. search needs) (λ c. search needs) (λ c. search needs) (λ c. search needs) returns)

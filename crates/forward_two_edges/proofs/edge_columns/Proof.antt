@@ -20,45 +20,44 @@ low : (s : tie.Start) → let a = s .args in
     (a .at + (2 + 4 * a .down) * (16 * a .size .width .0) + (a .x + 1) < 256 * macroblocks (a .size)) × (256 * macroblocks (a .size) ≤ 55507200)
 low s = let a = s .args in place-low (a .size) (s .pre .0 .sized) (16 * a .r + 2 + 4 * a .down) (16 * a .c + a .x + 1) (omega (arith, s .pre .1 .0)) (omega (arith, ends s)) (omega (arith, inside s))
 
-add-top : tie.Need-add-top
+add-top : tie.Need-add-corner
 add-top c = omega (arith, low (c .before))
 
-add-second : tie.Need-add-second
-add-second c = omega (arith, low (c .before))
-
-add-second-2 : tie.Need-add-second-2
-add-second-2 c = omega (arith, low (c .before))
+below-requires : tie.Need-below-requires
+below-requires c κs = (omega (arith, low (c .before)), omega arith)
 
 corner-requires : tie.Need-corner-requires
 corner-requires c κs =
-    let s = c .before .before in
+    let s = c .before .before .before in
     let a = s .args in
     let g = s .pre .0 in
     let h = s .pre .1 .1 in
-    (g, (first-place (g .below) (h .0) (4 * a .size .width .0) (16 * a .c + a .x) (omega (arith, s .pre .1 .0)), ((omega arith, h .1 .0, h .1 .1), corner-above (g .below) (h .0))))
+    (g, (first-place (g .below) (h .0) (a .c) (a .x) _ (omega (arith, s .pre .1 .0), omega arith), ((omega arith, h .1 .0, h .1 .1), corner-above (g .below) (h .0))))
 
 column-fours-requires : tie.Need-column-fours-requires
 column-fours-requires c κs =
     let d = c .before .before in
-    let s = d .before .before .before in
+    let b = d .before .before in
+    let s = b .before .before in
     let g = s .pre .0 in
-    (omega (arith, g .sized .wide), omega (arith, low s, g .of-samples), omega (arith, ends s, s .pre .1 .1 .1 .0, d .corner .ensures .1 .len, g .of-strip))
+    (omega (arith, g .sized .wide), omega (arith, low s, b .below .ensures, g .of-samples), omega (arith, ends s, b .below .ensures, s .pre .1 .1 .1 .0, d .corner .ensures .1 .len, g .of-strip))
 
 mul-corner : tie.Need-mul-corner
-mul-corner c = omega (arith, ends (c .before .before .before .before .before .before .before))
+mul-corner c = omega (arith, ends (c .before .before .before .before .before .before .before .before))
 
-add-corner : tie.Need-add-corner
-add-corner c = omega (arith, ends (c .before .before .before .before .before .before .before))
+add-end : tie.Need-add-corner-2
+add-end c = omega (arith, ends (c .before .before .before .before .before .before .before .before))
 
 corner-requires-2 : tie.Need-corner-requires-2
 corner-requires-2 c κs =
     let e = c .before .before in
     let d = e .before .before .before in
-    let s = d .before .before .before in
+    let b = d .before .before in
+    let s = b .before .before in
     let g = s .pre .0 in
     let h = s .pre .1 .1 in (
       given-of g (e .column-fours .ensures .0 .len ∙ d .corner .ensures .1 .len ∙ g .of-strip),
-      (λ k. omega (arith, s .pre .1 .0, e .column-fours .ensures .1), ((omega arith, h .1 .0, h .1 .1), corner-below (g .below) (h .0))),
+      (λ k. (omega (arith, s .pre .1 .0, b .below .ensures, e .column-fours .ensures .1), omega (arith, b .below .ensures, e .column-fours .ensures .1)), ((omega arith, h .1 .0, h .1 .1), corner-below (g .below) (h .0))),
     )
 
 returns : tie.Need-returns
@@ -66,15 +65,16 @@ returns c =
     let h = c .before in
     let e = h .before .before .before in
     let d = e .before .before .before in
-    let s = d .before .before .before in
+    let b = d .before .before in
+    let s = b .before .before in
     let a = s .args in
     let g = s .pre .0 in
     let k = s .pre .1 .1 .1 in
     columns-joined (g .below) (s .pre .1 .1 .0) (a .c) (a .x) (k .0) (d .corner .ensures)
-    (columns-filled (a .size) (a .samples .now) (g .sized .wide) (g .sized .tall) (g .of-samples) (a .r) (a .c) (a .x) (a .down) _ _ (k .0) (ends s .2) (k .1) (omega (arith, s .pre .1 .0)) (omega arith) (e .column-fours .ensures .0))
+    (columns-filled (a .size) (a .samples .now) (g .sized .wide) (g .sized .tall) (g .of-samples) (a .r) (a .c) (a .x) (a .down) _ _ (k .0) (ends s .2) (k .1) (omega (arith, s .pre .1 .0, b .below .ensures)) (omega (arith, b .below .ensures)) (e .column-fours .ensures .0))
     (h .corner2 .ensures)
 
 pub edge-columns-spec : {M : Type 1} → statement M
 edge-columns-spec =
     tie.close
-    (tie.spec (λ c. search needs) (λ c. search needs) add-top add-second add-second-2 corner-requires (λ c. search needs) column-fours-requires mul-corner add-corner corner-requires-2 (λ c. search needs) returns)
+    (tie.spec (λ c. search needs) (λ c. search needs) add-top below-requires corner-requires column-fours-requires mul-corner add-end corner-requires-2 (λ c. search needs) returns)

@@ -11,29 +11,35 @@ use Rattle.forward_two_parked.proofs.fetch.Statement.{statement}
 use Rattle.forward_two_parked.proofs.fetch.Tie as tie
 
 abbrev Inv-loop : tie.InvT-loop
-Inv-loop dc low high m n strip₀ b₀ strip b = (b ≤ n) × Fetched m b (blockOf dc low high) strip × Kept 0 2 0 (16 * n) strip₀ strip
+Inv-loop dc low high cells n strip₀ b₀ strip b = (b ≤ n) × Fetched (cells .dc) b (blockOf dc low high) strip × Kept 0 2 0 (16 * n) strip₀ strip
 
 abbrev μ-loop : tie.MeasureT-loop
-μ-loop dc low high m n strip₀ b₀ strip b = n - b
+μ-loop dc low high cells n strip₀ b₀ strip b = n - b
 
 loop-holds : tie.Need-loop-holds Inv-loop μ-loop
 loop-holds c = (omega arith, record { own = λ b k j h l i. absurd (omega arith) }, kept-none 0 2 0 (16 * c .args .n) (c .args .strip .now))
 
-add-fetch-macroblock : tie.Need-add-fetch-macroblock Inv-loop μ-loop
-add-fetch-macroblock c = omega (arith, c .before .before .pre .0)
+after-requires : tie.Need-after-requires Inv-loop μ-loop
+after-requires c κs = let s = c .before .before in (s .pre .0, omega (arith, s .pre .1 .0))
 
 fetch-macroblock-requires : tie.Need-fetch-macroblock-requires Inv-loop μ-loop
-fetch-macroblock-requires c κs = let l = c .before .before in let s = l .before in ((omega (arith, s .pre .0), omega (arith, s .pre .0), omega (arith, s .pre .0)), (omega (arith, s .pre .1), l .loop .inv .2 .len ∙ s .pre .1 .1))
+fetch-macroblock-requires c κs =
+    let own = c .before in
+    let l = own .before .before in
+    let p = l .before .pre in
+    let e = own .after .ensures in
+    (e .1, ((omega (arith, e, p), omega (arith, e, p), omega (arith, e, p)), (omega (arith, p), l .loop .inv .2 .len ∙ p .1 .1 .1)))
 
 loop-again : tie.Need-loop-again Inv-loop μ-loop
 loop-again c =
     let d = c .before in
-    let l = d .before .before .before in
+    let own = d .before .before in
+    let l = own .before .before in
     let s = l .before in
     let a = s .args in
     let v = l .loop .inv in
-    let e = d .fetch-macroblock .ensures in
-    (omega arith, macroblocks-fetched (blockOf (a .dc .now) (a .low .now) (a .high .now)) (a .m) (l .loop .b) (omega (arith, s .pre .1)) (e .0) (e .1) (v .1), kept-then (v .2) (kept-as 0 2 0 (16 * a .n) (omega arith) (omega arith) (omega arith) (omega arith) (e .1)))
+    let e = rw (own .after .ensures .0) at (d .fetch-macroblock .ensures) in
+    (omega arith, macroblocks-fetched (blockOf (a .dc .now) (a .low .now) (a .high .now)) (a .cells .dc) (l .loop .b) (omega (arith, s .pre .1 .1)) (e .0) (e .1) (v .1), kept-then (v .2) (kept-as 0 2 0 (16 * a .n) (omega arith) (omega arith) (omega arith) (omega arith) (e .1)))
 
 same-length : tie.Need-same-length Inv-loop μ-loop
 same-length c = c .before .loop .inv .2 .len
@@ -44,4 +50,4 @@ returns c = let l = c .before in let e : l .loop .b ≡ l .before .args .n = ome
 pub fetch-spec : {M : Type 1} → statement M
 fetch-spec =
     tie.close
-    (tie.spec Inv-loop μ-loop loop-holds add-fetch-macroblock fetch-macroblock-requires (λ c. omega arith) (λ c. omega arith) loop-again same-length returns)
+    (tie.spec Inv-loop μ-loop loop-holds after-requires fetch-macroblock-requires (λ c. omega arith) (λ c. omega arith) loop-again same-length returns)

@@ -20,9 +20,9 @@ returns c =
     let d = l1 .before in
     let s = d .before in
     let a = s .args in
-    zeros-parked (a .m) (a .b) (a .strip .now) (a .dc .now) (a .low .now) _ _ _ _ (s .pre .0 .0) (s .pre .0 .1) (back (d .dc .given)) (back (l1 .low .given)) (back (l2 .low2 .given)) (back (c .low3 .given))
+    rw (s .pre .0 .2) (zeros-parked (a .m) (a .b) (a .strip .now) (a .dc .now) (a .low .now) _ _ _ _ (s .pre .0 .0) (omega (arith, s .pre .0)) (back (d .dc .given)) (back (l1 .low .given)) (back (l2 .low2 .given)) (back (c .low3 .given)))
 
 pub park-zeros-spec : {M : Type 1} → statement M
 park-zeros-spec =
     tie.close
-    (tie.spec (λ c. search needs) (λ c. search needs) (λ c. search needs) (λ c. search needs) (λ c. search needs) (λ c. search needs) (λ c. search needs) (λ c. search needs) (λ c. search needs) (λ c. search needs) (λ c. search needs) (λ c. search needs) (λ c. search needs) (λ c. search needs) (λ c. search needs) (λ c. search needs) (λ c. search needs) (λ c. search needs) slice-set-from-low-3 (λ c. search needs) (λ c. search needs) (λ c. search needs) (λ c. search needs) (λ c. search needs) (λ c. search needs) slice-set-from-low-4 (λ c. search needs) (λ c. search needs) returns)
+    (tie.spec (λ c. search needs) (λ c. search needs) (λ c. search needs) (λ c. search needs) (λ c. search needs) (λ c. search needs) (λ c. search needs) (λ c. search needs) (λ c. search needs) (λ c. search needs) (λ c. search needs) (λ c. search needs) (λ c. search needs) (λ c. search needs) (λ c. search needs) (λ c. search needs) slice-set-from-low-3 (λ c. search needs) (λ c. search needs) (λ c. search needs) (λ c. search needs) (λ c. search needs) slice-set-from-low-4 (λ c. search needs) (λ c. search needs) returns)

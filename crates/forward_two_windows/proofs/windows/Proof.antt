@@ -3,21 +3,20 @@ use Prim.Native.Nat.{ℕ, _+_, _-_, _*_, _≤_}
 use mathlib.Core.Path.{_≡_, _∙_, ap}
 use native.Mathlib.Omega.{arith}
 use borrow.Author.Needs.{needs}
-use Rattle.transform.specs.Level.{cell}
-use Rattle.forward_two_edges.specs.Strip.{Holds, Kept}
+use Rattle.forward_two_edges.specs.Strip.{Holds, Kept, Stands}
 use Rattle.forward_two_edges.proofs.Strips.{given-of, later-row-few, holds-kept, holds-under, holds-as, kept-none, kept-as, kept-then}
 use Rattle.forward_two_windows.proofs.windows.Statement.{statement}
 use Rattle.forward_two_windows.proofs.windows.Tie as tie
 
 abbrev Inv-loop : tie.InvT-loop
-Inv-loop size r c samples at down n strip₀ across row₀ v₀ strip row v =
-    (v ≤ down) × Holds size samples r c 2 (4 * v + 2) 2 (4 * n + 2) strip × Kept 2 (4 * down + 2) 2 72 strip₀ strip × (row ≡ cell (4 * size .width .0) (16 * r + 4 * v + 2) (16 * c))
+Inv-loop size r c samples down n strip₀ across row₀ v₀ strip row v =
+    (v ≤ down) × Holds size samples r c 2 (4 * v + 2) 2 (4 * n + 2) strip × Kept 2 (4 * down + 2) 2 72 strip₀ strip × Stands size r c (4 * v + 2) 0 row
 
 abbrev μ-loop : tie.MeasureT-loop
-μ-loop size r c samples at down n strip₀ across row₀ v₀ strip row v = down - v
+μ-loop size r c samples down n strip₀ across row₀ v₀ strip row v = down - v
 
 loop-holds : tie.Need-loop-holds Inv-loop μ-loop
-loop-holds c = let s = c .before in (omega arith, record { there = λ y x e f m o p q. absurd (omega arith) }, kept-none 2 (4 * s .args .down + 2) 2 72 (s .args .strip .now), omega (arith, s .pre .1 .0))
+loop-holds c = let s = c .before in (omega arith, record { there = λ y x e f m o p q. absurd (omega arith) }, kept-none 2 (4 * s .args .down + 2) 2 72 (s .args .strip .now), (omega (arith, s .pre .1 .0), omega (arith, s .pre .1 .0)))
 
 window-row-requires : tie.Need-window-row-requires Inv-loop μ-loop
 window-row-requires c κs =
@@ -27,15 +26,16 @@ window-row-requires c κs =
     let h = s .pre .1 .1 in
     (given-of g (l .loop .inv .2 .len ∙ g .of-strip), (l .loop .inv .3, ((omega (arith, h), h .0 .1), (omega (arith, h), h .1 .1))))
 
-add-row : tie.Need-add-row Inv-loop μ-loop
-add-row c =
+below-requires : tie.Need-below-requires Inv-loop μ-loop
+below-requires c κs =
     let l = c .before .before .before .before in
     let s = l .before .before in
-    omega (arith, later-row-few (s .pre .0) (4 * l .loop .v + 2) 0 (l .loop .row) (omega (arith, l .loop .inv .3)) (omega (arith, s .pre .1 .1 .1)) (omega (arith, s .pre .0 .beside)))
+    let e = l .loop .inv .3 in
+    (omega (arith, later-row-few (s .pre .0) (4 * l .loop .v + 2) 0 (l .loop .row .samples) (e .0) (omega (arith, s .pre .1 .1 .1)) (omega (arith, s .pre .0 .beside))), omega (arith, e .1, s .pre .1 .1 .0))
 
 loop-again : tie.Need-loop-again Inv-loop μ-loop
 loop-again c =
-    let d = c .before in
+    let d = c .before .before in
     let l = d .before .before .before in
     let s = l .before .before in
     let a = s .args in
@@ -48,7 +48,7 @@ loop-again c =
       holds-as (a .r) (a .c) 2 (4 * (l .loop .v + 1) + 2) 2 k (omega arith) (omega arith) (omega arith) (omega arith)
           (holds-under (a .r) (a .c) 2 m b 2 k (holds-kept (a .r) (a .c) 2 m 2 k m b 2 72 (omega (arith, s .pre .1 .1 .0)) (λ y x i j n o p q u w. absurd (omega arith)) (v .1) (e .1)) (e .0)),
       kept-then (v .2) (kept-as 2 (4 * a .down + 2) 2 72 (omega arith) (omega arith) (omega arith) (omega arith) (e .1)),
-      omega (arith, v .3),
+      (omega (arith, v .3, c .below .ensures), omega (arith, v .3, c .below .ensures)),
     )
 
 same-length : tie.Need-same-length Inv-loop μ-loop
@@ -59,9 +59,9 @@ returns c =
     let l = c .before in
     let a = l .before .before .args in
     let all : l .loop .v ≡ a .down = omega arith in
-    (holds-as (a .r) (a .c) 2 (4 * a .down + 2) 2 (4 * a .n + 2) (omega arith) (omega arith) (omega arith) (omega arith) (l .loop .inv .1), (l .loop .inv .2, l .loop .inv .3 ∙ ap (λ (y : ℕ). cell (4 * a .size .width .0) y (16 * a .c)) (omega (arith, all))))
+    (holds-as (a .r) (a .c) 2 (4 * a .down + 2) 2 (4 * a .n + 2) (omega arith) (omega arith) (omega arith) (omega arith) (l .loop .inv .1), (l .loop .inv .2, rw all at (l .loop .inv .3)))
 
 pub windows-spec : {M : Type 1} → statement M
 windows-spec =
     tie.close
-    (tie.spec Inv-loop μ-loop (λ c. search needs) loop-holds window-row-requires (λ c. search needs) add-row (λ c. omega arith) (λ c. omega arith) loop-again same-length returns)
+    (tie.spec Inv-loop μ-loop (λ c. search needs) loop-holds window-row-requires (λ c. search needs) below-requires (λ c. omega arith) (λ c. omega arith) loop-again same-length returns)

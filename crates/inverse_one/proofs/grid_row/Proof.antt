@@ -18,10 +18,10 @@ use Rattle.inverse_one.proofs.grid_row.Statement.{statement}
 use Rattle.inverse_one.proofs.grid_row.Tie as tie
 
 abbrev Inv-loop : tie.InvT-loop
-Inv-loop view₀ r at dc low m p w c₀ view c = (c ≤ p) × Filled p (planeNumbers dc low) view₀ (Between m (m + c)) view
+Inv-loop view₀ r at dc low m from p w c₀ view c = (c ≤ p) × Filled p (planeNumbers dc low) view₀ (Between m (m + c)) view
 
 abbrev μ-loop : tie.MeasureT-loop
-μ-loop view₀ r at dc low m p w c₀ view c = p - c
+μ-loop view₀ r at dc low m from p w c₀ view c = p - c
 
 -- square (r, c) of a grid W squares across
 square-place : (W r c at m : ℕ) → c < W → at ≡ r * (16 * W) → m ≡ r * W → at + 4 * c ≡ cell W (4 * ((m + c) / W)) (4 * ((m + c) % W))
@@ -52,6 +52,9 @@ module _ (h : tie.In-loop Inv-loop μ-loop) where
   square-inside : s .args .at + 4 * column + 4 * W + 4 * W + 4 * W + 3 < 16 * (W * H)
   square-inside = omega (arith, beside, row-inside (s .args .r) H W (s .pre .0 .1), s .pre .1 .0 .0)
 
+  low-place : s .args .from + 15 * column ≡ 15 * (s .args .m + column)
+  low-place = omega (arith, s .pre .1 .0 .1, s .pre .1 .0 .2)
+
   at-most : W * H ≤ 216825
   at-most = few-macroblocks (s .pre .0 .0)
 
@@ -61,7 +64,7 @@ loop-holds c = (omega arith, filled-none _ _ _ _ (λ b h. absurd (omega (arith, 
 put-coefficients-requires : tie.Need-put-coefficients-requires Inv-loop μ-loop
 put-coefficients-requires c κs =
     let h = c .before .before in
-    (omega (arith, square-inside h, h .before .loop .inv .1 .len, s h .pre .1 .1 .0), omega (arith, macroblock-inside h, s h .pre .1 .1 .1 .1))
+    (omega (arith, square-inside h, h .before .loop .inv .1 .len, s h .pre .1 .1 .0), omega (arith, macroblock-inside h, low-place h, s h .pre .1 .1 .1 .1))
 
 loop-again : tie.Need-loop-again Inv-loop μ-loop
 loop-again c =
@@ -75,7 +78,7 @@ loop-again c =
       omega (arith, beside h),
       filled-join wide (Between m (m + (column h + 1))) (λ b. ℕ-discrete b n) (λ b z o. (z .0, omega (arith, z, o))) (λ b z. (z .0, omega (arith, z))) (λ b z. (omega (arith, z), omega (arith, z))) (λ b k z o. refl) (l .inv .1)
           (filled-one wide (H h) n _ (macroblock-inside h) (omega (arith, l .inv .1 .len, s h .pre .1 .1 .0))
-          (d .put-coefficients .ensures
+          (rw (low-place h) at (d .put-coefficients .ensures)
           ∙ ap₂ (λ (i : ℕ) x. put (square (4 * W h) i) (table 16 (coefficients x (λ k. at (s h .args .low .now) (15 * n + k)))) (l .view)) (square-place (W h) (s h .args .r) (column h) (s h .args .at) m (beside h) (s h .pre .1 .0 .0) (s h .pre .1 .0 .1)) (back (a .put-coefficients-arg2 .given)))),
     )
 
@@ -89,4 +92,4 @@ returns c =
 pub grid-row-spec : {M : Type 1} → statement M
 grid-row-spec =
     tie.close
-    (tie.spec Inv-loop μ-loop (λ c. omega arith) (λ c. omega arith) loop-holds (λ c. omega (arith, beside (c .before), at-most (c .before))) (λ c. omega (arith, square-inside (c .before), at-most (c .before))) (λ c. omega (arith, macroblock-inside (c .before), at-most (c .before))) (λ c. omega (arith, macroblock-inside (c .before), at-most (c .before))) (λ c. omega (arith, macroblock-inside (c .before), s (c .before) .pre .1 .1 .1 .0)) (λ c. omega (arith, macroblock-inside (c .before .before), at-most (c .before .before))) (λ c. omega (arith, macroblock-inside (c .before .before), at-most (c .before .before))) put-coefficients-requires (λ c. omega arith) (λ c. omega arith) loop-again (λ c. c .before .loop .inv .1 .len) returns)
+    (tie.spec Inv-loop μ-loop (λ c. omega arith) (λ c. omega arith) loop-holds (λ c. omega (arith, beside (c .before), at-most (c .before))) (λ c. omega (arith, square-inside (c .before), at-most (c .before))) (λ c. omega (arith, macroblock-inside (c .before), at-most (c .before))) (λ c. omega (arith, macroblock-inside (c .before), at-most (c .before))) (λ c. omega (arith, macroblock-inside (c .before), s (c .before) .pre .1 .1 .1 .0)) (λ c. omega (arith, beside (c .before .before), s (c .before .before) .pre .0 .0 .most-wide)) (λ c. omega (arith, macroblock-inside (c .before .before), low-place (c .before .before), at-most (c .before .before))) put-coefficients-requires (λ c. omega arith) (λ c. omega arith) loop-again (λ c. c .before .loop .inv .1 .len) returns)

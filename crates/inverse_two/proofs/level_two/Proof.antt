@@ -42,7 +42,7 @@ abbrev μ-loop : tie.MeasureT-loop
 -- the rows of windows that run after the next row of macroblocks
 module _ (l : tie.At-loop Inv-loop μ-loop) where
   abbrev start : tie.Start Inv-loop μ-loop
-  start = l .before .before .before .before
+  start = l .before .before .before .before .before .before
 
   abbrev H : ℕ
   H = start .args .size .height .0
@@ -89,6 +89,7 @@ loop-again c =
     let l = h .before in
     let v = l .loop .inv in
     let s = start l in
+    let w = l .before .before .before .before .samples .ensures .0 in
     let below : 4 * (l .loop .r - 1) + 4 ≡ 4 * l .loop .r = omega (arith, v .0) in (
       omega arith,
       omega (arith, v .1),
@@ -96,7 +97,7 @@ loop-again c =
       λ h. absurd (omega (arith, h, v .0, v .1)),
       reached-next (s .pre .0 .wide) (H l) (s .args .samples .now) (s .args .high .now) (s .pre .1 .0) (s .args .filtered) (4 * (l .loop .r - 1)) (l .loop .windows) (4 * l .loop .r)
           (omega (arith, v .0)) (omega (arith, v .1)) (room l) (upper l) (lowest l) (v .4) (rw below at (m .macroblock-row .ensures .0)) (f .windows-if .ensures),
-      omega (arith, v .5, up h),
+      omega (arith, v .5, up h, w),
       omega (arith, v .6, up h),
       omega (arith, v .7, up h),
       neither (λ under here. small-join (s .args .high .now) (omega arith) here under) (v .8) (m .macroblock-row .ensures .1),
@@ -157,7 +158,7 @@ returns c =
 pub level-two-spec : {M : Type 1} → statement M
 level-two-spec =
     tie.close
-    (tie.spec Inv-loop μ-loop (λ c. omega arith) (λ c. omega (arith, c .before .pre .0 .most-wide)) (λ c. omega (arith, c .before .pre .0 .most-wide)) (λ c. omega arith) (λ c. omega (arith, c .before .before .pre .0 .most-tall)) (λ c. omega arith)
-    (λ c. let s = c .before .before .before in (s .pre .0 .tall, omega arith, λ h. absurd (omega (arith, h)), λ h. refl, reached-none _ _ _ _ _, omega (arith, s .pre .1 .0), omega (arith, s .pre .1 .0), omega (arith, s .pre .1 .1), λ e. small-none (s .args .high .now) (omega arith)))
+    (tie.spec Inv-loop μ-loop (λ c. omega arith) (λ c κs. c .before .pre .0) (λ c. omega arith) (λ c. omega (arith, c .before .before .before .pre .0 .most-wide)) (λ c. omega arith) (λ c. omega (arith, c .before .before .before .before .pre .0 .most-tall)) (λ c. omega arith)
+    (λ c. let s = c .before .before .before .before .before in (s .pre .0 .tall, omega arith, λ h. absurd (omega (arith, h)), λ h. refl, reached-none _ _ _ _ _, omega (arith, s .pre .1 .0), omega (arith, s .pre .1 .0), omega (arith, s .pre .1 .1), λ e. small-none (s .args .high .now) (omega arith)))
     (λ c. omega arith) (λ c. omega (arith, start (c .before) .pre .0 .most-wide)) (λ c. omega (arith, c .before .loop .inv .5, up c)) (λ c. omega (arith, start (c .before) .pre .0 .most-wide)) (λ c. omega (arith, c .before .loop .inv .6, up c)) (λ c. omega (arith, start (c .before) .pre .0 .most-wide)) (λ c. omega (arith, c .before .loop .inv .7, up c)) macroblock-row-requires (λ c. let s = start (c .before .before .before .before .before) in omega (arith, c .before .before .before .before .before .loop .inv .1, s .pre .0 .most-tall)) windows-if-requires (λ c. omega arith) loop-again
     top-row-requires windows-if-requires-2 edges-if-requires same-length returns)
