@@ -2,10 +2,12 @@
 mod filter_stages; // filter_stages.rt: the stages of Figure 4.14 after its first
 
 ghost use mathlib.Core.Path.{_≡_};
-ghost use Rattle.lifting.specs.Program.{run, undo};
+ghost use lib.IntN.{pos};
+ghost use Rattle.lifting.specs.Program.{Hadamard, PostHadamard, run, undo};
 ghost use Rattle.lifting.specs.Wraps.{wraps, undoWraps};
 ghost use Rattle.figures.specs.Block.{flat};
-ghost use Rattle.figures.specs.Figures.{squareFilter as squareFilterLines};
+ghost use Rattle.figures.specs.Figures.{squareFilter as squareFilterLines, hadamard as hadamardLines, postHadamard as postHadamardLines};
+ghost use Rattle.figures.specs.Pieces.{mirroredStage, crossedStage};
 use crate::filter_stages::crossed;
 use crate::filter_stages::crossed_told;
 use crate::filter_stages::post_hadamards;
@@ -19,18 +21,50 @@ use blocks::split;
 use blocks::stage::hadamards;
 use blocks::stage::hadamards_told;
 
+// The stages take and give blocks; inside, a block is four fours.
+fn first_stage(b: [[i32; 4]; 4]) -> [[i32; 4]; 4]
+    ensures done { λ r. ⌜ flat r ≡ run (mirroredStage Hadamard (hadamardLines (pos 0))) (flat b) ⌝ }
+    ensures undone { λ r. ⌜ flat r ≡ undo (mirroredStage Hadamard (hadamardLines (pos 0))) (flat b) ⌝ }
+{
+    mirrored(hadamards(split(b)))
+}
+
+fn crossed_stage(b: [[i32; 4]; 4]) -> [[i32; 4]; 4]
+    ensures { λ r. ⌜ flat r ≡ run crossedStage (flat b) ⌝ }
+{
+    mirrored(crossed(split(b)))
+}
+
+fn last_stage(b: [[i32; 4]; 4]) -> [[i32; 4]; 4]
+    ensures { λ r. ⌜ flat r ≡ run (mirroredStage PostHadamard postHadamardLines) (flat b) ⌝ }
+{
+    mirrored(post_hadamards(split(b)))
+}
+
+fn undo_crossed_stage(b: [[i32; 4]; 4]) -> [[i32; 4]; 4]
+    ensures { λ r. ⌜ flat r ≡ undo crossedStage (flat b) ⌝ }
+{
+    mirrored(undo_crossed(split(b)))
+}
+
+fn undo_last_stage(b: [[i32; 4]; 4]) -> [[i32; 4]; 4]
+    ensures { λ r. ⌜ flat r ≡ undo (mirroredStage PostHadamard postHadamardLines) (flat b) ⌝ }
+{
+    mirrored(undo_post_hadamards(split(b)))
+}
+
 // Figure 4.14
 pub fn square_filter(b: [[i32; 4]; 4]) -> [[i32; 4]; 4]
     ensures { λ r. ⌜ flat r ≡ run squareFilterLines (flat b) ⌝ }
 {
-    mirrored(post_hadamards(crossed(hadamards(split(b)))))
+    last_stage(crossed_stage(first_stage(b)))
 }
 
 // Figure 4.14 undone
 pub fn undo_square_filter(b: [[i32; 4]; 4]) -> [[i32; 4]; 4]
     ensures { λ r. ⌜ flat r ≡ undo squareFilterLines (flat b) ⌝ }
 {
-    mirrored(hadamards(undo_crossed(undo_post_hadamards(split(b)))))
+    first_stage(undo_crossed_stage(undo_last_stage(b)))
 }
 
 // Whether a reduction changes a number in Figure 4.14
