@@ -6,6 +6,7 @@ pub mod OnePlanes
 pub mod Stages
 pub mod Cells
 pub mod Apart
+pub mod FiltersApart
 pub mod Part
 pub mod LevelPart
 pub mod Windows

@@ -16,6 +16,7 @@ use Rattle.lifting.specs.Valid.{places}
 use Rattle.lifting.specs.Wrap.{wrap}
 use Rattle.lifting.specs.Program.{end, at, run, line, value, get, put, _then_, each, lineBy, runBy, valueBy}
 use Rattle.figures.specs.Figures.{hadamard, odd, oddOdd, core, coreStages, rotation, scale, postHadamard, postOddOdd, fourFilter, squareFilter}
+use Rattle.picture.proofs.CheckLaws.{sized, shaped}
 use Rattle.picture.specs.declared.size.Size.{Size}
 use Rattle.transform.specs.Level.{square, corner, coreAt, squareFilterAt, fourFilterAt, cornerFilterAt, cores, squareFilters, rowFilters, columnFilters, cornerFilters, filters, level}
 use Rattle.picture.specs.Modes.{modeOf}
@@ -90,9 +91,6 @@ reached = tt
 
 -- ---- each half of the claim over whole pictures, cited at a concrete place
 
-small-shape : (mode W H : ℕ) → mode ≤ 2 → 0 < W → W ≤ 2 → 0 < H → H ≤ 2 → Shape mode (of W H)
-small-shape mode W H h a b c d = record { known = h; sized = record { wide = a; most-wide = omega arith; tall = c; most-tall = omega arith } }
-
 zero-row : (n : ℕ) → Row n (table n (λ i. pos 0))
 zero-row n = row-table n _ (λ i l. record { sfits = lit< tt })
 
@@ -106,7 +104,7 @@ one-dc = record { dc = record { len = refl; fit = fit }; low = zero-row 15; high
 
 pub found : forward 0 (of 1 1) (table 256 (λ i. nineOnes (i / 16) (i % 16))) ≡ dcOnly 1 (pos 1 ∷ [])
 found =
-    let shape = small-shape 0 1 1 (omega arith) (omega arith) (omega arith) (omega arith) (omega arith) in
+    let shape = shaped 0 (of 1 1) refl in
     let row = subst (Row 256) (bench .0) (row-inverse (modeOf 0) (of 1 1) (shape .sized) one-dc) in
     sym (whole-pictures 0 (of 1 1) shape .one-set _ row .only (dcOnly 1 (pos 1 ∷ [])) one-dc (bench .0))
 
@@ -123,7 +121,7 @@ narrow (suc mode) = omega arith
 
 pub unreached : (mode : ℕ) → mode ≤ 2 → at (inverse mode (of 2 2) nothing) (31 * 32 + 31) ≡ at (inverse mode (of 2 2) edited) (31 * 32 + 31)
 unreached mode h =
-    whole-pictures mode (of 2 2) (small-shape mode 2 2 h (omega arith) (omega arith) (omega arith) (omega arith)) .windows nothing edited 31 31 (omega arith)
+    whole-pictures mode (of 2 2) (record { known = h; sized = sized (of 2 2) refl }) .windows nothing edited 31 31 (omega arith)
     (record { blocks = λ b l n w. n (λ k m. sym (getD-set-other (nothing .high) 0 (15 * blockOrder 2 b + k) (pos 4096) (pos 0) (λ e. omega (arith, e, w .row .high, narrow mode)))); macroblocks = λ m l n w. n (refl, λ k l. refl) })
 
 -- ---- a grid of one column of squares has four edge columns, each filtered once, and a grid of one row of squares four edge rows; both have four corners

@@ -1,4 +1,5 @@
 pub mod Level
+pub mod Apart
 pub mod Grids
 pub mod Transform
 pub mod Windows
