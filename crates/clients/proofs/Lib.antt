@@ -1,0 +1,7 @@
+pub mod FaultLaws
+pub mod Numbers
+pub mod HeaderLaws
+pub mod RoundTrips
+pub mod Rounding
+pub mod Found
+pub mod WorkLaws

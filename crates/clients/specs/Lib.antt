@@ -1,0 +1,4 @@
+pub mod Right
+pub mod Faults
+pub mod Header
+pub mod Work

@@ -1,0 +1,9 @@
+pub mod Sizes
+pub mod Planes
+pub mod Windows
+pub mod Filters
+pub mod Wraps
+pub mod Files
+pub mod Steps
+pub mod Forecast
+pub mod Finder
