@@ -24,7 +24,6 @@ use Rattle.picture.specs.Planes.{Planes, PlanesOf}
 use Rattle.picture.specs.Table.{table}
 use Rattle.transform.specs.Grids.{grid, blockOrder, firstGrid, secondGrid}
 use Rattle.transform.specs.Windows.{highMargin, lowMargin}
-use Rattle.picture.specs.Sizes.{Shape}
 use Rattle.transform.specs.Transform.{quarterBy, inverseBy, inverse, forward}
 use Rattle.picture.proofs.Table.{row-table}
 use Rattle.transform.proofs.OnePlanes.{row-inverse}

@@ -1,7 +1,7 @@
 -- The block's fours, the stage on them, and the block of them.
 use mathlib.Core.Path.{_∙_, ap}
 use Rattle.lifting.specs.Program.{run, undo}
-use Rattle.figures.specs.Pieces.{quarterStage, coreMirroredStage}
+use Rattle.figures.specs.Pieces.{coreMirroredStage}
 use Rattle.core_transform.proofs.Stages.{mirrored-run, mirrored-undo}
 use Rattle.core_transform.proofs.second_stage.Statement.{statement}
 use Rattle.core_transform.proofs.second_stage.Tie as tie

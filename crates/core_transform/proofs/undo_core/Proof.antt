@@ -2,7 +2,7 @@
 use mathlib.Core.Path.{_∙_, ap}
 use Rattle.lifting.specs.Program.{undo, get, undoBy}
 use Rattle.figures.specs.Figures.{inverseReorder, core}
-use Rattle.figures.specs.Pieces.{quarterStage, coreMirroredStage}
+use Rattle.figures.specs.Pieces.{quarterStage}
 use Rattle.core_transform.proofs.Stages.{stages-undo}
 use Rattle.core_transform.proofs.undo_core.Statement.{statement}
 use Rattle.core_transform.proofs.undo_core.Tie as tie

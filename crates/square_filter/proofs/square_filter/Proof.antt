@@ -2,7 +2,7 @@
 use mathlib.Core.Path.{_∙_, ap}
 use Rattle.lifting.specs.Program.{run}
 use Rattle.figures.specs.Pieces.{crossedStage}
-use Rattle.square_filter.proofs.Stages.{mirrored-run, first, last, stages-run}
+use Rattle.square_filter.proofs.Stages.{last, stages-run}
 use Rattle.square_filter.proofs.square_filter.Statement.{statement}
 use Rattle.square_filter.proofs.square_filter.Tie as tie
 

@@ -2,7 +2,7 @@
 use mathlib.Core.Path.{_∙_, ap}
 use Rattle.lifting.specs.Program.{undo}
 use Rattle.figures.specs.Pieces.{crossedStage}
-use Rattle.square_filter.proofs.Stages.{mirrored-undo, first, last, stages-undo}
+use Rattle.square_filter.proofs.Stages.{first, last, stages-undo}
 use Rattle.square_filter.proofs.undo_square_filter.Statement.{statement}
 use Rattle.square_filter.proofs.undo_square_filter.Tie as tie
 
