@@ -1,102 +1,138 @@
 -- Blocks stored and replaced one after another: each store adds to what is done and leaves the rest.
-use Prim.Native.Nat.{ℕ, _+_, _*_, _/_, _%_, _<_, _≤_}
-use mathlib.Core.Path.{_≡_, refl, _∙_, ap, ap₂, subst}
+use Prim.Native.Nat.{ℕ, zero, suc, _+_, _-_, _*_, _/_, _%_, _<_, _≤_}
+use mathlib.Core.Path.{_≡_, refl, sym, _∙_, ap, ap₂}
 use mathlib.Core.Logic.{by-cases}
 use mathlib.Core.List.{List}
 use native.Mathlib.Omega.{arith}
-use native.Mathlib.Decide.{decLt}
+use native.Mathlib.Decide.{ℕ-discrete, decLt}
 use lib.Arith.{digits-div, digits-mod}
-use lib.ListN.{length, set, length-set}
+use lib.ListN.{length, set}
 use lib.Seq.{getD-set-same, getD-set-other}
 use lib.IntN.{ℤ, pos}
-use Rattle.lifting.specs.Program.{at, get, put, undo, undoBy}
-use Rattle.figures.specs.Block.{four}
+use Rattle.lifting.specs.Program.{at, get, undo, undoBy}
 use Rattle.figures.specs.Figures.{core}
-use Rattle.transform.specs.Level.{strip, square}
-use Rattle.transform.specs.Grids.{blockAt}
+use Rattle.transform.specs.Level.{square}
+use Rattle.transform.specs.Grids.{coefficients, blockAt}
+use Rattle.picture.proofs.Table.{at-table}
 use Rattle.grid.proofs.Rows.{row-inside}
 use Rattle.forward_kernel.specs.Placed.{Placed, undoneAt, blockIn}
-use Rattle.forward_kernel.proofs.Stores.{same-block, block-is, placed-after, four-placed}
-use Rattle.forward_two_cores.specs.Blocks.{blockOf, squareIn, undoneIn, Among, Replaced, Elsewhere}
+use Rattle.forward_kernel.proofs.Stores.{same-block, block-is}
+use Rattle.forward_two_cores.specs.Blocks.{zeroOf, blockOf, squareIn, undoneIn, Among, InRows, Replaced}
 
--- ---- blocks
+-- ---- what is replaced after something else
 
--- a block is stored
-pub block-stored : (t : ℕ) (xs zeros : List ℤ) {rest zeros' rest' : List ℤ} → t < length zeros → length xs ≡ 16
-    → zeros' ≡ set zeros t (at xs 0) → Placed (15 * t) 15 (λ k. at xs (k + 1)) rest rest' → Replaced (λ s. s ≡ t) (λ s. xs) (blockIn zeros rest) (blockIn zeros' rest')
-unfolding blockIn
-block-stored t xs zeros {rest} {zeros'} {rest'} room n e p = record {
-  own = λ s y. block-is _ xs n (ap (at zeros') y ∙ ap (λ v. at v t) e ∙ getD-set-same zeros t (at xs 0) (pos 0) room) (λ k h. ap (λ (r : ℕ). at rest' (15 * r + k)) y ∙ p .own k h);
-  others = λ s o. same-block _ _ (ap (λ v. at v s) e ∙ getD-set-other zeros t s (at xs 0) (pos 0) o) (λ k h. by-cases (decLt s t) (λ l. p .below (15 * s + k) (omega arith)) (λ l. p .above (15 * s + k) (omega (arith, l, o))));
-}
+pub replaced-none : {A : Type 0} {P : ℕ → Type 0} {f old : ℕ → A} → ((t : ℕ) → P t → ⊥) → Replaced P f old old
+replaced-none none = record { own = λ t h. absurd (none t h); others = λ t h. refl }
 
-module _ {P : ℕ → Type 0} {old new : ℕ → List ℤ} where
-  pub replaced-as : {f g : ℕ → List ℤ} → ((t : ℕ) → P t → f t ≡ g t) → Replaced P f old new → Replaced P g old new
+module _ {A : Type 0} {f old new : ℕ → A} where
+  pub replaced-as : {P : ℕ → Type 0} {g : ℕ → A} → ((t : ℕ) → P t → f t ≡ g t) → Replaced P f old new → Replaced P g old new
   replaced-as e r = record { own = λ t h. r .own t h ∙ e t h; others = r .others }
 
--- ---- macroblocks after macroblocks
+  -- the same blocks
+  pub replaced-in : {P Q : ℕ → Type 0} → ((t : ℕ) → P t → Q t) → ((t : ℕ) → Q t → P t) → Replaced P f old new → Replaced Q f old new
+  replaced-in there back r = record { own = λ t h. r .own t (back t h); others = λ t n. r .others t (λ h. n (there t h)) }
 
-module _ (f : ℕ → List ℤ) {old new : ℕ → List ℤ} where
-  pub among-one : (m : ℕ) → Replaced (λ t. t / 16 ≡ m) f old new → Replaced (Among m (m + 1)) f old new
-  among-one m r = record { own = λ t h. r .own t (omega (arith, h)); others = λ t n. r .others t (λ e. n (omega (arith, e), omega (arith, e))) }
-
-  pub among-as : {a b : ℕ} (a' b' : ℕ) → a ≡ a' → b ≡ b' → Replaced (Among a b) f old new → Replaced (Among a' b') f old new
-  among-as a' b' e h r = record { own = λ t l. r .own t (omega (arith, l), omega (arith, l)); others = λ t n. r .others t (λ l. n (omega (arith, l), omega (arith, l))) }
-
-  pub among-more : {mid : ℕ → List ℤ} (a b c : ℕ) → a ≤ b → b ≤ c → Replaced (Among a b) f old mid → Replaced (Among b c) f mid new → Replaced (Among a c) f old new
-  among-more a b c h k p q = record {
-    own = λ t l. by-cases (decLt (t / 16) b) (λ u. q .others t (λ z. absurd (omega (arith, z, u))) ∙ p .own t (l .0, u)) (λ u. q .own t (omega (arith, u), l .1));
-    others = λ t n. q .others t (λ z. n (omega (arith, z), z .1)) ∙ p .others t (λ z. n (z .0, omega (arith, z)));
+  -- those with a key below b, and then the others
+  pub replaced-more : {P Q R : ℕ → Type 0} {mid : ℕ → A} (key : ℕ → ℕ) (b : ℕ)
+      → ((t : ℕ) → R t → key t < b → P t) → ((t : ℕ) → R t → b ≤ key t → Q t) → ((t : ℕ) → P t → R t) → ((t : ℕ) → Q t → R t × (b ≤ key t))
+      → Replaced P f old mid → Replaced Q f mid new → Replaced R f old new
+  replaced-more key b first second below above p q = record {
+    own = λ t h. by-cases (decLt (key t) b) (λ u. q .others t (λ z. absurd (omega (arith, u, above t z .1))) ∙ p .own t (first t h u)) (λ u. q .own t (second t h (omega (arith, u))));
+    others = λ t n. q .others t (λ z. n (above t z .0)) ∙ p .others t (λ z. n (below t z));
   }
 
-pub among-none : (a : ℕ) (f old : ℕ → List ℤ) → Replaced (Among a a) f old old
-among-none a f old = record { own = λ t h. absurd (omega (arith, h)); others = λ t h. refl }
+  -- macroblocks after macroblocks
+  pub among-more : {mid : ℕ → A} (a b c : ℕ) → a ≤ b → b ≤ c → Replaced (Among a b) f old mid → Replaced (Among b c) f mid new → Replaced (Among a c) f old new
+  among-more a b c h k = replaced-more (λ t. t / 16) b (λ t r u. (r .0, u)) (λ t r u. (u, r .1)) (λ t r. (r .0, omega (arith, r))) (λ t r. ((omega (arith, r), r .1), r .0))
 
--- ---- a macroblock's blocks: their coefficients 0 among DC and low-pass, the others in its part of the high-pass plane
+  -- in the rows a to b - 1, blocks after blocks
+  pub along-more : {mid : ℕ → A} (a b : ℕ) (m n p : ℕ) → m ≤ n → n ≤ p → Replaced (InRows a b m n) f old mid → Replaced (InRows a b n p) f mid new → Replaced (InRows a b m p) f old new
+  along-more a b m n p h k =
+      replaced-more (λ t. t / 16) n (λ t r u. ((r .0 .0, u), r .1, r .2)) (λ t r u. ((u, r .0 .1), r .1, r .2)) (λ t r. ((r .0 .0, omega (arith, r .0 .1)), r .1, r .2)) (λ t r. (((omega (arith, r .0 .0), r .0 .1), r .1, r .2), r .0 .0))
 
-pub macroblock-replaced : (m : ℕ) (f : ℕ → List ℤ) (g : ℕ → ℤ) (dc low high dc' low' high' z : List ℤ)
-    → Replaced (λ s. s ≡ m) (λ s. z) (blockIn dc low) (blockIn dc' low') → Placed (240 * m) 240 g high high'
-    → ((t : ℕ) → length (f t) ≡ 16) → ((t : ℕ) → t / 16 ≡ m → at z (t % 16) ≡ at (f t) 0) → ((t k : ℕ) → t / 16 ≡ m → k < 15 → g (15 * (t % 16) + k) ≡ at (f t) (k + 1))
-    → Replaced (λ t. t / 16 ≡ m) f (blockOf dc low high) (blockOf dc' low' high')
-unfolding blockOf
-macroblock-replaced m f g dc low high dc' low' high' z q p n u v = record {
-  own = λ t e. block-is _ (f t) (n t) (ap (λ x. at x (t % 16)) (q .own (t / 16) e) ∙ u t e)
-      (λ k h. ap (at high') (omega arith) ∙ p .own (15 * (t % 16) + k) (omega arith) ∙ v t k e h);
-  others = λ t o.
-      same-block _ _ (ap (λ x. at x (t % 16)) (q .others (t / 16) o))
-      (λ k h. by-cases (decLt (t / 16) m) (λ l. p .below (15 * t + k) (omega arith)) (λ l. p .above (15 * t + k) (omega (arith, l, o))));
+  -- rows after rows
+  pub rows-more : {mid : ℕ → A} (a b c : ℕ) (m n : ℕ) → a ≤ b → b ≤ c → Replaced (InRows a b m n) f old mid → Replaced (InRows b c m n) f mid new → Replaced (InRows a c m n) f old new
+  rows-more a b c m n h k =
+      replaced-more (λ t. t % 16 / 4) b (λ t r u. (r .0, r .1, u)) (λ t r u. (r .0, u, r .2)) (λ t r. (r .0, r .1, omega (arith, r .2))) (λ t r. ((r .0, omega (arith, r .1), r .2), r .1))
+
+-- ---- coefficients 0
+
+unfoldable first-or-next : (x : ℤ) (f : ℕ → ℤ) (k : ℕ) → (k ≡ 0 → coefficients x f k ≡ x) × (0 < k → coefficients x f k ≡ f (k - 1))
+first-or-next x f zero = (λ e. refl, λ h. absurd (omega arith))
+first-or-next x f (suc k) = (λ e. absurd (omega arith), λ h. ap f (omega arith))
+
+module _ (dc low : List ℤ) (t : ℕ) where
+  zero-is : zeroOf dc low t ≡ coefficients (at dc (t / 16)) (λ k. at low (15 * (t / 16) + k)) (t % 16)
+  unfolding blockIn
+  zero-is = at-table 16 (coefficients (at dc (t / 16)) (λ k. at low (15 * (t / 16) + k))) (t % 16) (omega arith)
+
+  in-dc : t % 16 ≡ 0 → zeroOf dc low t ≡ at dc (t / 16)
+  in-dc e = zero-is ∙ first-or-next _ _ (t % 16) .0 e
+
+  in-low : 0 < t % 16 → zeroOf dc low t ≡ at low (15 * (t / 16) + (t % 16 - 1))
+  in-low h = zero-is ∙ first-or-next _ _ (t % 16) .1 h
+
+-- the row of blocks k of macroblock m: in row 0 the first is the DC number
+abbrev Row : ℕ → ℕ → ℕ → Type 0
+Row m k = InRows k (k + 1) m (m + 1)
+
+in-row : (m k : ℕ) → k < 4 → (t : ℕ) → (t < 16 * m + 4 * k → ⊥) → t < 16 * m + 4 * k + 4 → Row m k t
+in-row m k b t u v = ((omega (arith, u), omega (arith, u)), omega (arith, u), omega (arith, u))
+
+pub zeros-first : (m : ℕ) (z dc low : List ℤ) {x : ℤ} {low' : List ℤ} {from : ℕ} → m < length dc → from ≡ 15 * m → x ≡ at z 0 → Placed from 3 (λ j. at z (j + 1)) low low'
+    → Replaced (Row m 0) (λ t. at z (t % 4)) (zeroOf dc low) (zeroOf (set dc m x) low')
+zeros-first m z dc low {x} {low'} room e is p = record {
+  own = λ t h. by-cases (ℕ-discrete (t % 16) 0)
+      (λ y. in-dc _ low' t y ∙ ap (at (set dc m x)) (omega (arith, h)) ∙ getD-set-same dc m x (pos 0) room ∙ is ∙ ap (at z) (omega (arith, y)))
+      (λ o. in-low _ low' t (omega (arith, o)) ∙ ap (at low') (omega (arith, h)) ∙ p .own (t % 16 - 1) (omega (arith, o, h)) ∙ ap (at z) (omega (arith, o, h)));
+  others = λ t n. by-cases (ℕ-discrete (t % 16) 0)
+      (λ y. in-dc _ low' t y ∙ getD-set-other dc m (t / 16) x (pos 0) (λ l. n ((omega (arith, l), omega (arith, l)), omega (arith, y), omega (arith, y))) ∙ sym (in-dc dc low t y))
+      (λ o. in-low _ low' t (omega (arith, o)) ∙ outside t n o ∙ sym (in-low dc low t (omega (arith, o))));
 }
+  where
+    outside : (t : ℕ) → (Row m 0 t → ⊥) → (t % 16 ≡ 0 → ⊥) → at low' (15 * (t / 16) + (t % 16 - 1)) ≡ at low (15 * (t / 16) + (t % 16 - 1))
+    outside t n o = by-cases (decLt t (16 * m + 0)) (λ u. p .below _ (omega (arith, u, o)))
+        (λ u. by-cases (decLt t (16 * m + 0 + 4)) (λ v. absurd (n (in-row m 0 (omega arith) t u v))) (λ v. p .above _ (omega (arith, v, o))))
 
--- four blocks side by side after the others of their macroblock: the row of blocks k, which begins at place j
+pub zeros-next : (m k : ℕ) (z dc low : List ℤ) {low' : List ℤ} {from : ℕ} → from ≡ 15 * m → 0 < k → k < 4 → Placed (from + (4 * k - 1)) 4 (at z) low low'
+    → Replaced (Row m k) (λ t. at z (t % 4)) (zeroOf dc low) (zeroOf dc low')
+zeros-next m k z dc low {low'} e a b p = record {
+  own = λ t h. in-low dc low' t (omega (arith, h)) ∙ ap (at low') (omega (arith, h)) ∙ p .own (t % 4) (omega arith);
+  others = λ t n. by-cases (ℕ-discrete (t % 16) 0)
+      (λ y. in-dc dc low' t y ∙ sym (in-dc dc low t y))
+      (λ o. in-low dc low' t (omega (arith, o)) ∙ outside t n o ∙ sym (in-low dc low t (omega (arith, o))));
+}
+  where
+    outside : (t : ℕ) → (Row m k t → ⊥) → (t % 16 ≡ 0 → ⊥) → at low' (15 * (t / 16) + (t % 16 - 1)) ≡ at low (15 * (t / 16) + (t % 16 - 1))
+    outside t n o = by-cases (decLt t (16 * m + 4 * k)) (λ u. p .below _ (omega (arith, u, o)))
+        (λ u. by-cases (decLt t (16 * m + 4 * k + 4)) (λ v. absurd (n (in-row m k b t u v))) (λ v. p .above _ (omega (arith, v, o))))
 
-module _ (w i : ℕ) (grid : List ℤ) (k : ℕ) {j : ℕ} (begins : j ≡ i + k * (4 * w)) where
-  side-by-side : (l b : ℕ) → k ≡ b / 4 → l ≡ b % 4 → undoneAt w (j + 4 * l) grid ≡ undoneIn w i grid b
-  side-by-side l b e f = ap (λ (a : ℕ). undoneAt w a grid) place ∙ ap₂ (λ (a b : ℕ). undoneAt w (i + 4 * a * w + 4 * b) grid) e f
+-- ---- four blocks side by side: their coefficients 0 among DC and low-pass, the others in their part of the high-pass plane
+
+length-undone : (w i : ℕ) (grid : List ℤ) → length (undoneAt w i grid) ≡ 16
+unfolding undoneAt undoBy core get
+length-undone w i grid = refl
+
+-- row k of macroblock m from four squares of a grid of w columns, of which the first begins at place j
+module _ (w j : ℕ) (grid : List ℤ) (m k : ℕ) where
+  pub blocks-replaced : (z dc low dc' low' : List ℤ) {high high' : List ℤ} {from : ℕ} → k < 4 → from ≡ 240 * m + 60 * k → ((l : ℕ) → l < 4 → at z l ≡ at (undoneAt w (j + 4 * l) grid) 0)
+      → Placed from 60 (λ n. at (undoneAt w (j + 4 * (n / 15)) grid) (n % 15 + 1)) high high' → Replaced (Row m k) (λ t. at z (t % 4)) (zeroOf dc low) (zeroOf dc' low')
+      → Replaced (Row m k) (λ t. undoneAt w (j + 4 * (t % 4)) grid) (blockOf dc low high) (blockOf dc' low' high')
+  unfolding blockOf
+  blocks-replaced z dc low dc' low' {high' = high'} b e zeros p r = record {
+    own = λ t h. block-is _ _ (length-undone w (j + 4 * (t % 4)) grid) (r .own t h ∙ zeros (t % 4) (omega arith))
+        (λ i l. ap (at high') (omega (arith, h)) ∙ p .own (15 * (t % 4) + i) (omega arith) ∙ ap₂ (λ (a b : ℕ). at (undoneAt w (j + 4 * a) grid) b) (omega arith) (omega arith));
+    others = λ t n. same-block _ _ (r .others t n)
+        (λ i l. by-cases (decLt t (16 * m + 4 * k)) (λ u. p .below _ (omega (arith, u)))
+        (λ u. by-cases (decLt t (16 * m + 4 * k + 4)) (λ v. absurd (n (in-row m k b t u v))) (λ v. p .above _ (omega (arith, v)))));
+  }
+
+  -- as blocks of a macroblock whose first number stands at place i
+  pub side-by-side : (i : ℕ) → j ≡ i + k * (4 * w) → (t : ℕ) → Row m k t → undoneAt w (j + 4 * (t % 4)) grid ≡ undoneIn w i grid (t % 16)
+  side-by-side i begins t h = ap (λ (a : ℕ). undoneAt w a grid) place ∙ ap₂ (λ (a b : ℕ). undoneAt w (i + 4 * a * w + 4 * b) grid) (omega (arith, h)) (omega arith)
     where
-      place : j + 4 * l ≡ i + 4 * k * w + 4 * l
+      place : j + 4 * (t % 4) ≡ i + 4 * k * w + 4 * (t % 4)
       place = omega arith
-
-  pub zeros-more : (zeros : List ℤ) {old mid new : List ℤ} → 4 * k + 3 < length old → ((l : ℕ) → l < 4 → at zeros l ≡ at (undoneAt w (j + 4 * l) grid) 0)
-      → Placed 0 (4 * k) (λ b. at (undoneIn w i grid b) 0) old mid → new ≡ put (strip 1 (4 * k)) (four zeros) mid → Placed 0 (4 * (k + 1)) (λ b. at (undoneIn w i grid b) 0) old new
-  zeros-more zeros {old} {mid} {new} room z p e =
-      let f : ℕ → ℤ = λ b. at (undoneIn w i grid b) 0 in
-      placed-after 0 (4 * k) (4 * k) 4 (4 * (k + 1)) f (at zeros) f (omega arith) (omega arith) (omega arith) (λ b h. refl) (λ l h. z l h ∙ ap (λ b. at b 0) (side-by-side l (4 * k + l) (omega arith) (omega arith)))
-      p (subst (λ (a : ℕ). Placed a 4 (at zeros) mid new) (omega arith) (four-placed (4 * k) zeros mid (omega (arith, p .len)) e))
-
-  pub rest-more : (first : ℕ) {from : ℕ} {old mid new : List ℤ} → from ≡ first + 60 * k → Placed first (60 * k) (λ n. at (undoneIn w i grid (n / 15)) (n % 15 + 1)) old mid
-      → Placed from 60 (λ n. at (undoneAt w (j + 4 * (n / 15)) grid) (n % 15 + 1)) mid new → Placed first (60 * (k + 1)) (λ n. at (undoneIn w i grid (n / 15)) (n % 15 + 1)) old new
-  rest-more first {mid = mid} {new} e p q =
-      let f : ℕ → ℤ = λ n. at (undoneIn w i grid (n / 15)) (n % 15 + 1) in
-      let g : ℕ → ℤ = λ n. at (undoneAt w (j + 4 * (n / 15)) grid) (n % 15 + 1) in
-      placed-after first (60 * k) (60 * k) 60 (60 * (k + 1)) f g f (omega arith) (omega arith) (omega arith) (λ n h. refl)
-      (λ n h. ap₂ (λ (b : List ℤ) (n : ℕ). at b n) (side-by-side (n / 15) ((60 * k + n) / 15) (omega arith) (omega arith)) (omega arith)) p (subst (λ (a : ℕ). Placed a 60 g mid new) e q)
-
-module _ (w i : ℕ) (grid : List ℤ) where
-  pub length-undone : (k : ℕ) → length (undoneIn w i grid k) ≡ 16
-  unfolding undoneAt undoBy core get
-  length-undone k = refl
-
--- ---- rows
 
 -- ---- a macroblock's squares in the samples: macroblock c of row r, which begins at place i and with macroblock m
 
@@ -112,26 +148,15 @@ module _ {W : ℕ} (wide : 0 < W) (r c : ℕ) (beside : c < W) {i m : ℕ} (begi
       let low : 4 * c + k % 4 < 4 * W = omega arith in
       rw (place, digits-div (4 * r + k / 4) low, digits-mod (4 * r + k / 4) low) (ap₂ (λ (w i : ℕ). undo core (get (square w i) samples)) (omega arith) (omega arith))
 
-  pub macroblock-inside : (H : ℕ) → r < H → (m + c < W * H) × (i + 16 * c + 15 * (16 * W) + 15 < 256 * (W * H))
-  macroblock-inside H h = (omega (arith, row-inside r H W h), omega (arith, row-inside r H W h))
-
--- ---- numbers of one macroblock's blocks that are stored and then stored anew
-
-pub nowhere : (i n : ℕ) (v : List ℤ) → Elsewhere i n v v
-nowhere i n v = record { len = refl; below = λ j h. refl; above = λ j h. refl }
-
-pub elsewhere-more : {i n : ℕ} {old v : List ℤ} (j : ℕ) (x : ℤ) → i ≤ j → j < i + n → Elsewhere i n old v → Elsewhere i n old (set v j x)
-elsewhere-more {i} {n} {old} {v} j x a b e = record {
-  len = length-set v j x ∙ e .len;
-  below = λ k h. getD-set-other v j k x (pos 0) (λ z. omega (arith, z)) ∙ e .below k h;
-  above = λ k h. getD-set-other v j k x (pos 0) (λ z. omega (arith, z)) ∙ e .above k h;
-}
-
-pub other-blocks : (dc low : List ℤ) {old new : List ℤ} (m : ℕ) → Elsewhere (240 * m) 240 old new → (t : ℕ) → (t / 16 ≡ m → ⊥) → blockOf dc low new t ≡ blockOf dc low old t
-unfolding blockOf
-other-blocks dc low {old} {new} m e t n = same-block _ _ refl (λ k h. cell k h (decLt t (16 * m)) (decLt t (16 * m + 16)))
+-- row y of the blocks is row y % 4 of the blocks in row y / 4 of the macroblocks
+pub row-begins : (y W : ℕ) → y * (64 * W) ≡ y / 4 * (256 * W) + y % 4 * (4 * (16 * W))
+row-begins y W = ap (λ (i : ℕ). i * (64 * W)) split ∙ apart (y / 4) (y % 4)
   where
-    cell : (k : ℕ) → k < 15 → Dec (t < 16 * m) → Dec (t < 16 * m + 16) → at new (15 * t + k) ≡ at old (15 * t + k)
-    cell k h (yes a) b = e .below _ (omega arith)
-    cell k h (no a) (yes b) = absurd (n (omega (arith, a)))
-    cell k h (no a) (no b) = e .above _ (omega (arith, b))
+    split : y ≡ 4 * (y / 4) + y % 4
+    split = omega arith
+
+    apart : (r k : ℕ) → (4 * r + k) * (64 * W) ≡ r * (256 * W) + k * (4 * (16 * W))
+    apart r k = omega arith
+
+pub row-ends : (y W H : ℕ) → y < 4 * H → (y * (64 * W) + 64 * W ≤ 256 * (W * H)) × (y / 4 * W + W ≤ W * H)
+row-ends y W H h = (omega (arith, row-inside y (4 * H) (64 * W) h), omega (arith, row-inside (y / 4) H W (omega arith)))

@@ -3,16 +3,18 @@ use Prim.Native.Nat.{ℕ, _+_, _*_, _/_, _%_, _<_, _≤_}
 use mathlib.Core.Path.{_≡_}
 use mathlib.Core.List.{List}
 use lib.IntN.{ℤ}
-use lib.ListN.{length}
 use Rattle.lifting.specs.Program.{at, get}
 use Rattle.transform.specs.Level.{cell, square}
 use Rattle.picture.specs.Table.{table}
 use Rattle.transform.specs.Grids.{coefficients, blockAt}
 use Rattle.forward_kernel.specs.Placed.{blockIn, undoneAt}
 
--- block t, in the order of the high-pass plane; the coefficients 0 of a macroblock's sixteen blocks are its DC and low-pass numbers, as a block of level one
+-- coefficient 0 of block t, in the order of the high-pass plane: those of a macroblock's sixteen blocks are its DC and low-pass numbers, as a block of level one
+abbrev pub zeroOf : List ℤ → List ℤ → ℕ → ℤ
+zeroOf dc low t = at (blockIn dc low (t / 16)) (t % 16)
+
 unfoldable pub blockOf : List ℤ → List ℤ → List ℤ → ℕ → List ℤ
-blockOf dc low high t = table 16 (coefficients (at (blockIn dc low (t / 16)) (t % 16)) (λ k. at high (15 * t + k)))
+blockOf dc low high t = table 16 (coefficients (zeroOf dc low t) (λ k. at high (15 * t + k)))
 
 -- the same block's square in the samples of a picture W macroblocks wide
 unfoldable pub squareIn : ℕ → List ℤ → ℕ → List ℤ
@@ -26,13 +28,11 @@ undoneIn w i grid k = undoneAt w (i + 4 * (k / 4) * w + 4 * (k % 4)) grid
 abbrev pub Among : ℕ → ℕ → ℕ → Type 0
 Among m n t = (m ≤ t / 16) × (t / 16 < n)
 
--- the blocks in P are f's, and all others what they were
-pub record Replaced (P : ℕ → Type 0) (f old new : ℕ → List ℤ) : Type 0 where
+-- and in rows a to b - 1 of its macroblock's blocks
+abbrev pub InRows : ℕ → ℕ → ℕ → ℕ → ℕ → Type 0
+InRows a b m n t = Among m n t × (a ≤ t % 16 / 4) × (t % 16 / 4 < b)
+
+-- what the blocks in P have is f's, and what all others have is what it was: a block itself, or its coefficient 0
+pub record Replaced {A : Type 0} (P : ℕ → Type 0) (f old new : ℕ → A) : Type 0 where
   pub own : (t : ℕ) → P t → new t ≡ f t
   pub others : (t : ℕ) → (P t → ⊥) → new t ≡ old t
-
--- lists of one length that are the same but for the n numbers from place i on
-pub record Elsewhere (i n : ℕ) (old new : List ℤ) : Type 0 where
-  pub len : length new ≡ length old
-  pub below : (j : ℕ) → j < i → at new j ≡ at old j
-  pub above : (j : ℕ) → i + n ≤ j → at new j ≡ at old j

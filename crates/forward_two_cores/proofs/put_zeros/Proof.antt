@@ -1,38 +1,36 @@
--- The DC number, and the low-pass numbers one after another.
-use Prim.Native.Nat.{_+_, _-_, _*_, _≤_}
-use mathlib.Core.Path.{refl, ap}
+-- In row 0 the DC number and three low-pass numbers after it, in the others four low-pass numbers.
+use Prim.Native.Nat.{_+_, _-_, _*_}
+use mathlib.Core.Path.{_≡_, refl}
 use native.Mathlib.Omega.{arith}
+use borrow.Author.Needs.{needs}
 use lib.ListN.{set, length-set}
 use Rattle.lifting.specs.Program.{at}
 use Rattle.lifting.proofs.Bits.{back}
-use Rattle.forward_kernel.specs.Placed.{Placed}
-use Rattle.forward_kernel.proofs.Stores.{placed-none, placed-next, placed-up-to}
-use Rattle.forward_two_cores.proofs.Stores.{block-stored}
+use Rattle.forward_kernel.proofs.Stores.{placed-none, placed-next, four-placed}
+use Rattle.forward_two_cores.proofs.Stores.{zeros-first, zeros-next}
 use Rattle.forward_two_cores.proofs.put_zeros.Statement.{statement}
 use Rattle.forward_two_cores.proofs.put_zeros.Tie as tie
 
-abbrev Inv-loop : tie.InvT-loop
-Inv-loop dc low₀ m from z k₀ low k = (k ≤ 15) × Placed from k (λ j. at z (j + 1)) low₀ low
-
-abbrev μ-loop : tie.MeasureT-loop
-μ-loop dc low₀ m from z k₀ low k = 15 - k
-
-loop-again : tie.Need-loop-again Inv-loop μ-loop
-loop-again c =
-    let l = c .before .before in
-    let s = l .before .before in
-    let v = l .loop .inv .1 in
-    (omega arith, placed-next (s .args .from) (l .loop .k) _ (s .args .from + l .loop .k) refl (omega (arith, s .pre .0 .1)) (back (c .low .given)) v)
-
-returns : tie.Need-returns Inv-loop μ-loop
+returns : tie.Need-returns
 returns c =
-    let l = c .before in
-    let s = l .before .before in
-    let z = s .args .z .now in
-    block-stored (s .args .m) z (s .args .dc .now) (s .pre .0 .0) (s .pre .1) (ap (set (s .args .dc .now) (s .args .m)) (back (l .before .dc .given)))
-    (rw (s .pre .0 .2) at (placed-up-to (l .loop .k) 15 (omega arith) (l .loop .inv .1)))
+    let d = c .before .before .before in
+    let s = d .before .before in
+    let a = s .args in
+    let first : a .k ≡ 0 = omega arith in
+    let p = placed-next (a .from) 2 (λ j. at (a .t6) (j + 1)) (a .from + 2) refl (omega (arith, s .pre .1)) (back (c .low3 .given))
+    (placed-next (a .from) 1 _ (a .from + 1) refl (omega (arith, s .pre .1)) (back (c .before .low2 .given))
+    (placed-next (a .from) 0 _ (a .from) (omega arith) (omega (arith, s .pre .1)) (back (c .before .before .low .given)) (placed-none (a .from) _ (a .low .now)))) in
+    rw first (zeros-first (a .m) (a .t6) (a .dc .now) (a .low .now) (s .pre .0) (s .pre .2) (back (d .dc .given)) p)
+
+returns-2 : tie.Need-returns-2
+returns-2 c =
+    let p = c .before in
+    let s = p .before .before .before in
+    let a = s .args in
+    zeros-next (a .m) (a .k) (a .t6) (a .dc .now) (a .low .now) (s .pre .2) (omega arith) (s .pre .3) (four-placed (a .from + (4 * a .k - 1)) (a .t6) (a .low .now) (omega (arith, s .pre)) (p .put-four .ensures))
 
 pub put-zeros-spec : {M : Type 1} → statement M
 put-zeros-spec =
     tie.close
-    (tie.spec Inv-loop μ-loop (λ c. omega arith) (λ c. omega arith) (λ c. omega arith) (λ c. (omega arith, placed-none _ _ _)) (λ c. omega arith) (λ c. omega arith) (λ c. omega arith) (λ c. omega arith) (λ c. omega arith) (λ c. omega arith) (λ c. omega arith) (λ c. omega arith) loop-again (λ c. simp length-set) (λ c. omega arith) returns)
+    (tie.spec (λ c. search needs) (λ c. search needs) (λ c. search needs) (λ c. search needs) (λ c. search needs) (λ c. search needs) (λ c. search needs) (λ c. search needs) (λ c. search needs) (λ c. let a = c .before .before .before .before .args in rw (length-set (a .low .now) (a .from) _) (omega (arith, c .before .before .before .before .pre))) (λ c. search needs) (λ c. search needs) (λ c. search needs) (λ c. let a = c .before .before .before .before .before .args in rw (length-set (set (a .low .now) (a .from) _) (a .from + 1) _, length-set (a .low .now) (a .from) _) (omega (arith, c .before .before .before .before .before .pre))) (λ c. search needs) (λ c. search needs) returns
+    (λ c. search needs) (λ c. search needs) (λ c. search needs) (λ c κs. search needs) (λ c. search needs) returns-2)

@@ -1,13 +1,11 @@
 -- Row after row, each of which begins where the one before ends; and then the blocks are the squares of the level's grid, and all
 -- samples were looked at.
-use Prim.Native.Nat.{ℕ, _+_, _-_, _*_, _≤_}
+use Prim.Native.Nat.{_+_, _-_, _*_, _≤_}
 use mathlib.Core.Path.{_≡_, refl}
 use mathlib.Core.Bool.{false}
-use mathlib.Core.List.{List}
 use native.Mathlib.Omega.{arith}
 use borrow.Author.Needs.{needs}
 use lib.ListN.{length}
-use lib.IntN.{ℤ}
 use Rattle.lifting.specs.Program.{undo}
 use Rattle.figures.specs.Figures.{core}
 use Rattle.picture.proofs.CheckLaws.{few-macroblocks}
@@ -16,7 +14,7 @@ use Rattle.large_numbers.specs.Small.{Small}
 use Rattle.large_numbers.proofs.Small.{neither, small-none, small-up-to, small-part, small-within}
 use Rattle.forward_two_cores.specs.Cells.{OfOne}
 use Rattle.forward_two_cores.specs.Blocks.{blockOf, squareIn, Among, Replaced}
-use Rattle.forward_two_cores.proofs.Stores.{among-none, among-as, among-more}
+use Rattle.forward_two_cores.proofs.Stores.{replaced-none, replaced-in, among-more}
 use Rattle.forward_two_cores.proofs.Whole.{sample-block, second-undone}
 use Rattle.forward_two_cores.proofs.undo_cores.Statement.{statement}
 use Rattle.forward_two_cores.proofs.undo_cores.Tie as tie
@@ -47,7 +45,7 @@ abbrev turn : tie.After-high Inv-loop μ-loop → tie.In-loop Inv-loop μ-loop
 turn c = c .before .before .before .before .before .before .before
 
 loop-holds : tie.Need-loop-holds Inv-loop μ-loop
-loop-holds c = (omega arith, refl, refl, refl, among-as _ 0 (0 * c .before .before .before .before .args .size .width .0) refl (omega arith) (among-none 0 _ _), omega arith, omega arith, (omega arith, omega arith), λ e. small-none (c .before .before .before .before .args .samples .now) (omega arith))
+loop-holds c = (omega arith, refl, refl, refl, replaced-none (λ t h. absurd (omega (arith, h))), omega arith, omega arith, (omega arith, omega arith), λ e. small-none (c .before .before .before .before .args .samples .now) (omega arith))
 
 undo-row-requires : tie.Need-undo-row-requires Inv-loop μ-loop
 undo-row-requires c κs =
@@ -57,30 +55,24 @@ undo-row-requires c κs =
     let n = s .pre .1 .1 in
     ((s .pre .0, omega arith), ((v .5, v .6, v .7), (s .pre .1 .0, (omega (arith, n), omega (arith, n), omega (arith, n)))))
 
--- its samples were looked at
-some-large-requires : tie.Need-some-large-requires Inv-loop μ-loop
-some-large-requires c κs = omega (arith, inside (turn c), (turn c) .before .before .before .before .before .before .pre .1 .0)
-
 loop-again : tie.Need-loop-again Inv-loop μ-loop
 loop-again c =
-    let look = c .before in
-    let h = look .before in
-    let d = h .before .before .before in
+    let d = c .before .before .before .before in
     let l = d .before .before .before .before .before in
     let v = l .loop .inv in
     let a = l .before .before .before .before .before .args in
     let W = a .size .width .0 in
     let r = l .loop .r in
-    let f : ℕ → List ℤ = λ t. undo core (squareIn W (a .samples .now) t) in (
+    let w = l .before .before .samples .ensures .0 in (
       omega arith,
       omega arith,
       omega arith,
       omega arith,
-      among-as f 0 ((r + 1) * W) refl (omega arith) (among-more f 0 (r * W) (r * W + W) (omega arith) (omega arith) (v .4) (d .undo-row .ensures)),
-      omega (arith, v .5),
+      replaced-in (λ t h. (omega arith, omega (arith, h))) (λ t h. (omega arith, omega (arith, h))) (among-more 0 (r * W) (r * W + W) (omega arith) (omega arith) (v .4) (d .undo-row .ensures .0)),
+      omega (arith, v .5, w),
       omega (arith, v .6, c .after .ensures .0),
       c .after .ensures .1,
-      neither (small-up-to (a .samples .now) (omega arith) (omega arith)) (v .8) (look .some-large .ensures .0),
+      neither (small-up-to (a .samples .now) (omega arith) (omega (arith, w))) (v .8) (d .undo-row .ensures .1),
     )
 
 same-length : tie.Need-same-length Inv-loop μ-loop
@@ -112,6 +104,5 @@ pub undo-cores-spec : {M : Type 1} → statement M
 undo-cores-spec =
     tie.close
     (tie.spec Inv-loop μ-loop (λ c. search needs) (λ c. search needs) (λ c κs. search needs) (λ c. search needs) loop-holds undo-row-requires
-    (λ c. omega (arith, inside (turn c))) some-large-requires
-    (λ c. omega (arith, inside (turn (c .before)))) (λ c. omega (arith, inside (turn (c .before)))) (λ c κs. (turn (c .before) .before .loop .inv .7, omega (arith, inside (turn (c .before)))))
+    (λ c. omega (arith, inside (turn c))) (λ c. omega (arith, inside (turn c))) (λ c κs. (turn c .before .loop .inv .7, omega (arith, inside (turn c))))
     (λ c. omega arith) (λ c. omega arith) loop-again same-length same-length-2 same-length-3 returns)
