@@ -86,8 +86,7 @@ fn middle(
     ensures { λ u. ⌜ Holds size (now (samples .entry)) r c first 18 2 (4 * n + 2) (now (strip .exit)) ⌝ }
     ensures { λ u. ⌜ Kept first 18 2 72 (now (strip .entry)) (now (strip .exit)) ⌝ }
 {
-    let across = size.width.0 as usize;
-    let w = 16 * across;
+    let w = size.samples().width.0 as usize;
     let top = Place {
         samples: at,
         strip: 0,

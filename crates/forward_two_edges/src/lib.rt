@@ -75,11 +75,11 @@ pub fn edge_rows(
     ensures { λ u. ⌜ Holds size (now (samples .entry)) r c top bottom 2 (4 * n + 2) (now (strip .exit)) ⌝ }
     ensures { λ u. ⌜ Kept top bottom 2 (4 * n + 2) (now (strip .entry)) (now (strip .exit)) ⌝ }
 {
-    let across = size.width.0 as usize;
+    let w = size.samples().width.0 as usize;
     let mut row = at;
     for y in top..bottom {
         edge_row(size, r, c, samples, row, y, n, strip);
-        row = row.below(1, 16 * across);
+        row = row.below(1, w);
     }
 }
 
@@ -103,8 +103,8 @@ fn corner(
     ensures { λ u. ⌜ Kept top bottom x (x + 2) (now (strip .entry)) (now (strip .exit)) ⌝ }
 {
     if top < bottom {
-        let across = size.width.0 as usize;
-        let filtered = get_corner(samples, 16 * across, at.samples);
+        let w = size.samples().width.0 as usize;
+        let filtered = get_corner(samples, w, at.samples);
         let undone = unfiltered(filtered);
         put_corner(strip, 72, at.strip, undone);
     }
@@ -145,8 +145,7 @@ pub fn edge_columns(
     ensures { λ u. ⌜ Holds size (now (samples .entry)) r c first 18 x (x + 2) (now (strip .exit)) ⌝ }
     ensures { λ u. ⌜ Kept first 18 x (x + 2) (now (strip .entry)) (now (strip .exit)) ⌝ }
 {
-    let across = size.width.0 as usize;
-    let w = 16 * across;
+    let w = size.samples().width.0 as usize;
     let top = Place {
         samples: at + x,
         strip: x,

@@ -1,5 +1,4 @@
 // The windows of level two in the strip: the filters over the corners that four blocks share, undone from the samples.
-ghost use mathlib.Core.Path.{_≡_};
 ghost use Prim.Native.Nat.{ℕ, _+_, _*_, _<_, _≤_};
 ghost use Rattle.forward_two_edges.specs.Strip.{Holds, Kept, Given, Stands};
 use forward_four_windows::undo_four_windows;
@@ -24,8 +23,7 @@ fn windows_at(
     ensures { λ u. ⌜ ((k : ℕ) → k ≤ 4 * l + 18 → 16 * c + k + 2 ≤ 16 * size .width .0 → Holds size (now (samples .entry)) r c (4 * v + 2) (4 * v + 6) (4 * l + 2) k (now (strip .exit))) ⌝ }
     ensures { λ u. ⌜ Kept (4 * v + 2) (4 * v + 6) (4 * l + 2) (4 * l + 18) (now (strip .entry)) (now (strip .exit)) ⌝ }
 {
-    let across = size.width.0 as usize;
-    let w = 16 * across;
+    let w = size.samples().width.0 as usize;
     undo_four_windows(
         samples,
         w,
@@ -79,11 +77,11 @@ pub fn windows(
     ensures { λ u. ⌜ Kept 2 (4 * down + 2) 2 72 (now (strip .entry)) (now (strip .exit)) ⌝ }
     ensures { λ u. ⌜ Stands size r c (4 * down + 2) 0 u ⌝ }
 {
-    let across = size.width.0 as usize;
+    let w = size.samples().width.0 as usize;
     let mut row = at;
     for v in 0..down {
         window_row(size, r, c, samples, row, v, n, strip);
-        row = row.below(4, 16 * across);
+        row = row.below(4, w);
     }
     row
 }

@@ -49,7 +49,7 @@ fn grid_row(
     ensures { λ o. ⌜ Filled (size .width .0) (planeNumbers (now (dc .entry)) (now (low .entry))) (now (view .entry)) (Between m (m + size .width .0)) (now (view .exit)) ⌝ }
 {
     let p = size.width.0 as usize;
-    let w = 4 * p;
+    let w = size.width.blocks().0 as usize;
     for c in 0..p {
         put_coefficients(view, w, at + 4 * c, dc[m + c], low, from + 15 * c);
     }

@@ -37,17 +37,18 @@ fn macroblock(
     ensures { λ o. ⌜ BlocksCored (width .0) (now (high .entry)) (now (samples .entry)) (4 * r) (4 * r + 4) c (c + 1) (now (samples .exit)) ⌝ }
     ensures { λ o. ⌜ (o ≡ false → Small (now (high .entry)) from (from + 240)) ⌝ }
 {
-    let p = width.0 as usize;
-    let w = 4 * (4 * p);
+    let blocks = width.blocks();
+    let across = blocks.0 as usize;
+    let w = blocks.samples().0 as usize;
     let mut to = at + 16 * w;
-    let mut number = b + 16 * p;
+    let mut number = b + 4 * across;
     let mut next = from + 240;
     let mut large = false;
     let mut k = 4usize;
     while 0 < k {
         k -= 1;
         to -= 4 * w;
-        number -= 4 * p;
+        number -= across;
         next -= 60;
         let found = four_blocks(samples, w, to, number, high, next);
         large = large | found;
@@ -111,7 +112,7 @@ fn block_row(
     ensures { λ o. ⌜ (o ≡ false → (c : ℕ) → c < width .0 → Small (now (high .entry)) (from + 240 * c) (from + 240 * c + 60)) ⌝ }
 {
     let p = width.0 as usize;
-    let w = 4 * (4 * p);
+    let w = width.blocks().samples().0 as usize;
     let mut large = false;
     let mut c = p;
     while 0 < c {
@@ -131,16 +132,18 @@ fn top_row(samples: &mut [i32], width: Macroblocks, high: &[i32]) -> bool
     ensures { λ o. ⌜ RowsCored (width .0) (now (high .entry)) (now (samples .entry)) 0 4 (now (samples .exit)) ⌝ }
     ensures { λ o. ⌜ (o ≡ false → Small (now (high .entry)) 0 (240 * width .0)) ⌝ }
 {
-    let p = width.0 as usize;
-    let mut at = 256 * p;
-    let mut b = 16 * p;
+    let blocks = width.blocks();
+    let across = blocks.0 as usize;
+    let w = blocks.samples().0 as usize;
+    let mut at = 16 * w;
+    let mut b = 4 * across;
     let mut from = 240;
     let mut large = false;
     let mut y = 4;
     while 0 < y {
         y -= 1;
-        at -= 64 * p;
-        b -= 4 * p;
+        at -= 4 * w;
+        b -= across;
         from -= 60;
         let found = block_row(samples, width, y, at, b, high, from);
         large = large | found;
@@ -161,8 +164,9 @@ pub fn level_two(samples: &mut [i32], filtered: bool, size: Size, high: &[i32]) 
 {
     let width = size.width.0 as usize;
     let w = size.samples().width.0 as usize;
-    let across = 4 * width;
-    let down = 4 * (size.height.0 as usize);
+    let blocks = size.blocks();
+    let across = blocks.width.0 as usize;
+    let down = blocks.height.0 as usize;
     let mut at = samples.len();
     let mut b = at / 16;
     let mut from = high.len();
@@ -172,7 +176,7 @@ pub fn level_two(samples: &mut [i32], filtered: bool, size: Size, high: &[i32]) 
     while 1 < r {
         r -= 1;
         at -= 16 * w;
-        b -= 16 * width;
+        b -= 4 * across;
         from -= 240 * width;
         let found = macroblock_row(samples, size.width, r, at, b, high, from);
         large = large | found;

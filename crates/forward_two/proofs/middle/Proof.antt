@@ -16,11 +16,11 @@ low : (s : tie.Start) → let a = s .args in (a .at + 2 * (16 * a .size .width .
 low s = let a = s .args in let g = s .pre .0 in place-low (a .size) (g .sized) (16 * a .r + 2) (16 * a .c) (omega (arith, s .pre .1 .0)) (omega (arith, g .below)) (omega (arith, g .beside))
 
 below-requires : tie.Need-below-requires
-below-requires c κs = (omega (arith, low (c .before)), omega arith)
+below-requires c κs = (omega (arith, low (c .before .before), c .before .samples .ensures .0), omega arith)
 
 edge-rows-requires : tie.Need-edge-rows-requires
 edge-rows-requires c κs =
-    let s = c .before .before .before in
+    let s = c .before .before .before .before in
     let g = s .pre .0 in
     let h = s .pre .1 .1 in
     (g, (first-place (g .below) (h .0) (s .args .c) 0 _ (omega (arith, s .pre .1 .0), omega arith), ((omega arith, h .1 .0, h .1 .1), rows-above (g .below) (h .0))))
@@ -29,22 +29,23 @@ windows-requires : tie.Need-windows-requires
 windows-requires c κs =
     let d = c .before .before in
     let b = d .before .before in
-    let s = b .before .before in
+    let m = b .before .before in
+    let s = m .before in
     let g = s .pre .0 in
     let h = s .pre .1 .1 in
-    (given-of g (d .edge-rows .ensures .1 .len ∙ g .of-strip), ((omega (arith, s .pre .1 .0, b .below .ensures), omega (arith, b .below .ensures)), ((ends s .1, h .1 .0), (ends s .2, h .1 .1))))
+    (given-of g (d .edge-rows .ensures .1 .len ∙ g .of-strip), ((omega (arith, s .pre .1 .0, m .samples .ensures .0, b .below .ensures), omega (arith, b .below .ensures)), ((ends s .1, h .1 .0), (ends s .2, h .1 .1))))
 
 mul-edge-rows : tie.Need-mul-edge-rows
-mul-edge-rows c = omega (arith, ends (c .before .before .before .before .before .before .before .before))
+mul-edge-rows c = omega (arith, ends (c .before .before .before .before .before .before .before .before .before))
 
 add-edge-rows : tie.Need-add-edge-rows
-add-edge-rows c = omega (arith, ends (c .before .before .before .before .before .before .before .before))
+add-edge-rows c = omega (arith, ends (c .before .before .before .before .before .before .before .before .before))
 
 edge-rows-requires-2 : tie.Need-edge-rows-requires-2
 edge-rows-requires-2 c κs =
     let e = c .before .before in
     let d = e .before .before .before in
-    let s = d .before .before .before .before in
+    let s = d .before .before .before .before .before in
     let g = s .pre .0 in
     let h = s .pre .1 .1 in
     (given-of g (e .windows .ensures .1 .0 .len ∙ d .edge-rows .ensures .1 .len ∙ g .of-strip), (λ k. e .windows .ensures .1 .1, ((omega arith, h .1 .0, h .1 .1), rows-below (g .below) (h .0))))
@@ -54,7 +55,7 @@ returns c =
     let f = c .before in
     let e = f .before .before .before in
     let d = e .before .before .before in
-    let s = d .before .before .before .before in
+    let s = d .before .before .before .before .before in
     let a = s .args in
     let k = 4 * a .n + 2 in
     let few : k ≤ 72 = omega (arith, s .pre .1 .1 .1) in
@@ -73,4 +74,4 @@ returns c =
 pub middle-spec : {M : Type 1} → statement M
 middle-spec =
     tie.close
-    (tie.spec (λ c. search needs) (λ c. search needs) below-requires edge-rows-requires windows-requires mul-edge-rows add-edge-rows edge-rows-requires-2 (λ c. search needs) returns)
+    (tie.spec (λ c κs. search needs) (λ c. search needs) below-requires edge-rows-requires windows-requires mul-edge-rows add-edge-rows edge-rows-requires-2 (λ c. search needs) returns)

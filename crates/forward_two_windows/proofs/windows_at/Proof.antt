@@ -17,30 +17,34 @@ low s =
     (omega (arith, p, s .pre .1 .0), p .1)
 
 add-undo-four-windows : tie.Need-add-undo-four-windows
-add-undo-four-windows c = omega (arith, low (c .before .before), c .before .before .pre .1 .1)
+add-undo-four-windows c = omega (arith, low (c .before .before .before), c .before .before .before .pre .1 .1)
 
 add-undo-four-windows-2 : tie.Need-add-undo-four-windows-2
-add-undo-four-windows-2 c = omega (arith, low (c .before .before), c .before .before .pre .1 .1)
+add-undo-four-windows-2 c = omega (arith, low (c .before .before .before), c .before .before .before .pre .1 .1)
 
 add-strip : tie.Need-add-undo-four-windows-3
-add-strip c = omega (arith, c .before .before .before .before .pre .1)
+add-strip c = omega (arith, c .before .before .before .before .before .pre .1)
 
 add-strip-2 : tie.Need-add-undo-four-windows-4
-add-strip-2 c = omega (arith, c .before .before .before .before .pre .1)
+add-strip-2 c = omega (arith, c .before .before .before .before .before .pre .1)
 
 undo-four-windows-requires : tie.Need-undo-four-windows-requires
-undo-four-windows-requires c κs = let s = c .before .before .before .before in (omega (arith, low s, s .pre .1 .1, s .pre .0 .of-samples), omega (arith, s .pre .1, s .pre .0 .of-strip))
+undo-four-windows-requires c κs =
+    let m = c .before .before .before .before in
+    let s = m .before in
+    (omega (arith, m .samples .ensures .0, low s, s .pre .1 .1, s .pre .0 .of-samples), omega (arith, s .pre .1, s .pre .0 .of-strip))
 
 returns : tie.Need-returns
 returns c =
     let d = c .before in
-    let s = d .before .before .before .before .before in
+    let m = d .before .before .before .before .before in
+    let s = m .before in
     let a = s .args in
     let h = s .pre .1 .1 in
-    let e = d .undo-four-windows .ensures in
+    let e = rw (m .samples .ensures .0) at (d .undo-four-windows .ensures) in
     (windows-hold (a .size) (a .samples .now) (s .pre .0 .of-samples) (a .r) (a .c) (a .v) (a .l) _ _ (h .1 .0) (h .0 .1) (omega (arith, s .pre .1 .0)) (omega (arith, s .pre .1 .0)) e, windows-keep (a .size) (a .samples .now) (s .pre .0 .of-samples) (a .r) (a .c) (a .v) (a .l) _ _ (h .1 .0) (h .0 .1) (omega (arith, s .pre .1 .0)) (omega (arith, s .pre .1 .0)) e)
 
 pub windows-at-spec : {M : Type 1} → statement M
 windows-at-spec =
     tie.close
-    (tie.spec (λ c. search needs) (λ c. search needs) (λ c. search needs) add-undo-four-windows add-undo-four-windows-2 (λ c. search needs) add-strip add-strip-2 undo-four-windows-requires (λ c. search needs) returns)
+    (tie.spec (λ c κs. search needs) (λ c. search needs) (λ c. search needs) add-undo-four-windows add-undo-four-windows-2 (λ c. search needs) add-strip add-strip-2 undo-four-windows-requires (λ c. search needs) returns)

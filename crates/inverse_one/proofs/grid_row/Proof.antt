@@ -32,7 +32,7 @@ square-place W r c at m h a b =
 -- the square lies in the grid, and its macroblock in the planes
 module _ (h : tie.In-loop Inv-loop μ-loop) where
   abbrev s : tie.Start Inv-loop μ-loop
-  s = h .before .before .before
+  s = h .before .before .before .before .before
 
   abbrev W : ℕ
   W = s .args .size .width .0
@@ -78,18 +78,18 @@ loop-again c =
       omega (arith, beside h),
       filled-join wide (Between m (m + (column h + 1))) (λ b. ℕ-discrete b n) (λ b z o. (z .0, omega (arith, z, o))) (λ b z. (z .0, omega (arith, z))) (λ b z. (omega (arith, z), omega (arith, z))) (λ b k z o. refl) (l .inv .1)
           (filled-one wide (H h) n _ (macroblock-inside h) (omega (arith, l .inv .1 .len, s h .pre .1 .1 .0))
-          (rw (low-place h) at (d .put-coefficients .ensures)
+          (rw (h .before .before .before .blocks2 .ensures, low-place h) at (d .put-coefficients .ensures)
           ∙ ap₂ (λ (i : ℕ) x. put (square (4 * W h) i) (table 16 (coefficients x (λ k. at (s h .args .low .now) (15 * n + k)))) (l .view)) (square-place (W h) (s h .args .r) (column h) (s h .args .at) m (beside h) (s h .pre .1 .0 .0) (s h .pre .1 .0 .1)) (back (a .put-coefficients-arg2 .given)))),
     )
 
 returns : tie.Need-returns Inv-loop μ-loop
 returns c =
     let l = c .before .loop in
-    let a = c .before .before .before .args in
+    let a = c .before .before .before .before .before .args in
     let e : l .c ≡ a .size .width .0 = omega (arith, c .loop-test, l .inv .0) in
     rw e at (l .inv .1)
 
 pub grid-row-spec : {M : Type 1} → statement M
 grid-row-spec =
     tie.close
-    (tie.spec Inv-loop μ-loop (λ c. omega arith) (λ c. omega arith) loop-holds (λ c. omega (arith, beside (c .before), at-most (c .before))) (λ c. omega (arith, square-inside (c .before), at-most (c .before))) (λ c. omega (arith, macroblock-inside (c .before), at-most (c .before))) (λ c. omega (arith, macroblock-inside (c .before), at-most (c .before))) (λ c. omega (arith, macroblock-inside (c .before), s (c .before) .pre .1 .1 .1 .0)) (λ c. omega (arith, beside (c .before .before), s (c .before .before) .pre .0 .0 .most-wide)) (λ c. omega (arith, macroblock-inside (c .before .before), low-place (c .before .before), at-most (c .before .before))) put-coefficients-requires (λ c. omega arith) (λ c. omega arith) loop-again (λ c. c .before .loop .inv .1 .len) returns)
+    (tie.spec Inv-loop μ-loop (λ c. omega arith) (λ c κs. omega (arith, c .before .pre .0 .0 .most-wide)) (λ c. omega arith) loop-holds (λ c. omega (arith, beside (c .before), at-most (c .before))) (λ c. omega (arith, square-inside (c .before), at-most (c .before))) (λ c. omega (arith, macroblock-inside (c .before), at-most (c .before))) (λ c. omega (arith, macroblock-inside (c .before), at-most (c .before))) (λ c. omega (arith, macroblock-inside (c .before), s (c .before) .pre .1 .1 .1 .0)) (λ c. omega (arith, beside (c .before .before), s (c .before .before) .pre .0 .0 .most-wide)) (λ c. omega (arith, macroblock-inside (c .before .before), low-place (c .before .before), at-most (c .before .before))) put-coefficients-requires (λ c. omega arith) (λ c. omega arith) loop-again (λ c. c .before .loop .inv .1 .len) returns)
