@@ -1,6 +1,6 @@
 -- Cores of a whole grid, told block by block: each law joins what the code reads of a block with the block that the grid has there.
 use Prim.Native.Nat.{ℕ, zero, suc, _+_, _-_, _*_, _/_, _%_, _≤_, _<_}
-use mathlib.Core.Path.{_≡_, refl, sym, _∙_, ap}
+use mathlib.Core.Path.{_≡_, sym, _∙_, ap}
 use mathlib.Core.Bool.{Bool, false}
 use mathlib.Core.List.{List}
 use native.Mathlib.Omega.{arith}
@@ -42,16 +42,6 @@ pub block-in : {size : Size} → Sized size → {b : ℕ} → b < 16 * macrobloc
 block-in {size} s {b} h =
     let m : size .width .0 * size .height .0 ≤ size .width .0 * 413 = mul-le-mul (le-refl _) (s .most-tall) in
     (omega (arith, m), order-low (s .wide) (size .height .0) b h)
-
--- ---- coefficient 0, or one of the others
-
-pub first-coefficient : (x : ℤ) (f : ℕ → ℤ) (k : ℕ) → k ≡ 0 → x ≡ coefficients x f k
-first-coefficient x f zero e = refl
-first-coefficient x f (suc k) e = absurd (omega arith)
-
-pub later-coefficient : (x : ℤ) (f : ℕ → ℤ) (k : ℕ) → (k ≡ 0 → ⊥) → f (k - 1) ≡ coefficients x f k
-later-coefficient x f zero h = absurd (h refl)
-later-coefficient x f (suc k) h = let e : suc k - 1 ≡ k = omega arith in ap f e
 
 -- ---- a core of numbers of at most 2^27
 

@@ -10,7 +10,7 @@ use lib.ListN.{length, getD, set, length-set}
 use lib.Seq.{getD-set-same, getD-set-other}
 use lib.IntN.{ℤ, pos}
 use lib.Signed.{mag}
-use Rattle.lifting.specs.Program.{at, get, put, undo}
+use Rattle.lifting.specs.Program.{at, get, put, undo, undoBy}
 use Rattle.lifting.proofs.Bits.{back}
 use Rattle.figures.specs.Block.{four, flat}
 use Rattle.figures.specs.Figures.{core}
@@ -18,8 +18,8 @@ use Rattle.figures.proofs.Parts.{kept}
 use Rattle.transform.specs.Level.{strip, square}
 use Rattle.picture.specs.Table.{table}
 use Rattle.transform.specs.Grids.{coefficients}
-use Rattle.picture.proofs.Table.{table-is, table-same}
-use Rattle.forward_kernel.specs.Placed.{Placed, InLane, Undone, undoneAt}
+use Rattle.picture.proofs.Table.{at-table, table-is, table-same}
+use Rattle.forward_kernel.specs.Placed.{Placed, InLane, Undone, blockIn, undoneAt}
 
 -- two blocks whose numbers are the same
 pub same-block : {x y : ℤ} (f g : ℕ → ℤ) → x ≡ y → ((k : ℕ) → k < 15 → f k ≡ g k) → table 16 (coefficients x f) ≡ table 16 (coefficients y g)
@@ -35,6 +35,15 @@ block-is {x} f xs n e h = table-is 16 (coefficients x f) xs n entry
     entry : (k : ℕ) → k < 16 → coefficients x f k ≡ at xs k
     entry zero l = e
     entry (suc k) l = h k (omega arith) ∙ ap (at xs) (add-one k)
+
+-- number k of block t in two lists
+pub at-block : (zeros rest : List ℤ) (t k : ℕ) → k < 16 → at (blockIn zeros rest t) k ≡ coefficients (at zeros t) (λ i. at rest (15 * t + i)) k
+unfolding blockIn
+at-block zeros rest t k h = at-table 16 (coefficients (at zeros t) (λ i. at rest (15 * t + i))) k h
+
+pub length-undone : (w i : ℕ) (grid : List ℤ) → length (undoneAt w i grid) ≡ 16
+unfolding undoneAt undoBy core get
+length-undone w i grid = refl
 
 pub placed-none : (i : ℕ) (f : ℕ → ℤ) (v : List ℤ) → Placed i 0 f v v
 placed-none i f v = record { len = refl; own = λ k h. absurd (omega arith); below = λ j h. refl; above = λ j h. refl }

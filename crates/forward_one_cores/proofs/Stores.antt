@@ -8,13 +8,13 @@ use native.Mathlib.Decide.{decLt}
 use lib.ListN.{length, set}
 use lib.Seq.{getD-set-same, getD-set-other}
 use lib.IntN.{ℤ, pos}
-use Rattle.lifting.specs.Program.{at, get, undo, undoBy}
+use Rattle.lifting.specs.Program.{at, get, undo}
 use Rattle.figures.specs.Figures.{core}
 use Rattle.transform.specs.Level.{square}
 use Rattle.transform.specs.Grids.{coefficients}
 use Rattle.picture.proofs.Table.{length-table}
 use Rattle.forward_kernel.specs.Placed.{Placed, undoneAt, blockIn}
-use Rattle.forward_kernel.proofs.Stores.{same-block, block-is}
+use Rattle.forward_kernel.proofs.Stores.{same-block, block-is, length-undone}
 use Rattle.forward_one_cores.specs.Blocks.{Replaced}
 
 pub length-block : (dc low : List ℤ) (t : ℕ) → length (blockIn dc low t) ≡ 16
@@ -62,10 +62,6 @@ pub replaced-in-place : (g : List ℤ → List ℤ) {t n m : ℕ} {old mid new :
 replaced-in-place g {t} {n} {m} {old} p q = replaced-more p (replaced-as (t + n) m (λ s. g (old s)) refl refl (λ s h k. ap g (p .above s h)) q)
 
 -- ---- four blocks undone together
-
-length-undone : (w i : ℕ) (v : List ℤ) → length (undoneAt w i v) ≡ 16
-unfolding undoneAt undoBy core get
-length-undone w i v = refl
 
 -- block l of what comes out, its coefficients 0 and 1 to 15 in two lists
 pub lane-undone : (held zeros old rest x : List ℤ) (l : ℕ) → l < 4 → ((l : ℕ) → l < 4 → at zeros l ≡ at (undoneAt 16 (0 + 4 * l) held) 0)

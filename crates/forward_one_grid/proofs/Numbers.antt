@@ -10,7 +10,7 @@ use lib.IntN.{ℤ, pos}
 use Rattle.lifting.specs.Program.{at}
 use Rattle.transform.specs.Grids.{squareOf, coefficientOf, place, grid, coefficients, firstGrid}
 use Rattle.transform.proofs.Geometry.{square-of-place, coefficient-of-place, place-low}
-use Rattle.transform.proofs.Grid.{at-grid, at-first, grid-is, length-grid}
+use Rattle.transform.proofs.Grid.{first-coefficient, later-coefficient, at-grid, at-first, grid-is, length-grid}
 
 back-one : (k : ℕ) → suc k - 1 ≡ k
 back-one k = omega arith
@@ -38,14 +38,10 @@ module _ {W : ℕ} (wide : 0 < W) (H : ℕ) where
 
   module _ (dc low : List ℤ) (t k : ℕ) (inside : t < W * H) where
     pub dc-read : k ≡ 0 → at dc t ≡ at (firstGrid W H dc low) (place W t k)
-    dc-read e = rw e (sym (at-first wide H dc low t 0 inside (omega arith)))
+    dc-read e = first-coefficient _ _ k e ∙ sym (at-first wide H dc low t k inside (omega arith))
 
     pub low-read : k < 16 → (k ≡ 0 → ⊥) → at low (15 * t + (k - 1)) ≡ at (firstGrid W H dc low) (place W t k)
-    low-read h n = by-case k h n
-      where
-        by-case : (k : ℕ) → k < 16 → (k ≡ 0 → ⊥) → at low (15 * t + (k - 1)) ≡ at (firstGrid W H dc low) (place W t k)
-        by-case zero h n = absurd (n refl)
-        by-case (suc k) h n = rw (back-one k) (sym (at-first wide H dc low t (suc k) inside h))
+    low-read h n = later-coefficient _ (λ j. at low (15 * t + j)) k n ∙ sym (at-first wide H dc low t k inside h)
 
     pub dc-stored : (x : ℤ) → k ≡ 0 → t < length dc → firstGrid W H (set dc t x) low ≡ set (firstGrid W H dc low) (place W t k) x
     unfolding firstGrid

@@ -1,5 +1,5 @@
 -- Blocks stored and replaced one after another: each store adds to what is done and leaves the rest.
-use Prim.Native.Nat.{ℕ, zero, suc, _+_, _-_, _*_, _/_, _%_, _<_, _≤_}
+use Prim.Native.Nat.{ℕ, _+_, _-_, _*_, _/_, _%_, _<_, _≤_}
 use mathlib.Core.Path.{_≡_, refl, sym, _∙_, ap, ap₂}
 use mathlib.Core.Logic.{by-cases}
 use mathlib.Core.List.{List}
@@ -9,14 +9,14 @@ use lib.Arith.{digits-div, digits-mod}
 use lib.ListN.{length, set}
 use lib.Seq.{getD-set-same, getD-set-other}
 use lib.IntN.{ℤ, pos}
-use Rattle.lifting.specs.Program.{at, get, undo, undoBy}
+use Rattle.lifting.specs.Program.{at, get, undo}
 use Rattle.figures.specs.Figures.{core}
 use Rattle.transform.specs.Level.{square}
 use Rattle.transform.specs.Grids.{coefficients, blockAt}
-use Rattle.picture.proofs.Table.{at-table}
+use Rattle.transform.proofs.Grid.{first-coefficient, later-coefficient}
 use Rattle.grid.proofs.Rows.{row-inside}
-use Rattle.forward_kernel.specs.Placed.{Placed, undoneAt, blockIn}
-use Rattle.forward_kernel.proofs.Stores.{same-block, block-is}
+use Rattle.forward_kernel.specs.Placed.{Placed, undoneAt}
+use Rattle.forward_kernel.proofs.Stores.{same-block, block-is, at-block, length-undone}
 use Rattle.forward_two_cores.specs.Blocks.{zeroOf, blockOf, squareIn, undoneIn, Among, InRows, Replaced}
 
 -- ---- what is replaced after something else
@@ -55,80 +55,65 @@ module _ {A : Type 0} {f old new : ℕ → A} where
   rows-more a b c m n h k =
       replaced-more (λ t. t % 16 / 4) b (λ t r u. (r .0, r .1, u)) (λ t r u. (r .0, u, r .2)) (λ t r. (r .0, r .1, omega (arith, r .2))) (λ t r. ((r .0, omega (arith, r .1), r .2), r .1))
 
--- ---- coefficients 0
+-- ---- row k of the blocks of macroblock m
 
-unfoldable first-or-next : (x : ℤ) (f : ℕ → ℤ) (k : ℕ) → (k ≡ 0 → coefficients x f k ≡ x) × (0 < k → coefficients x f k ≡ f (k - 1))
-first-or-next x f zero = (λ e. refl, λ h. absurd (omega arith))
-first-or-next x f (suc k) = (λ e. absurd (omega arith), λ h. ap f (omega arith))
+abbrev InRow : ℕ → ℕ → ℕ → Type 0
+InRow m k = InRows k (k + 1) m (m + 1)
+
+-- a block that is not in it is before its four blocks or after them
+outside : {C : Type 0} (m k : ℕ) → k < 4 → (t : ℕ) → (InRow m k t → ⊥) → (t < 16 * m + 4 * k → C) → (16 * m + 4 * k + 4 ≤ t → C) → C
+outside m k few t n before after = by-cases (decLt t (16 * m + 4 * k)) before
+    (λ u. by-cases (decLt t (16 * m + 4 * k + 4)) (λ v. absurd (n ((omega (arith, u), omega (arith, u)), omega (arith, u), omega (arith, u)))) (λ v. after (omega (arith, v))))
+
+-- ---- coefficients 0: the first of row 0 is the DC number, the others are low-pass numbers
 
 module _ (dc low : List ℤ) (t : ℕ) where
-  zero-is : zeroOf dc low t ≡ coefficients (at dc (t / 16)) (λ k. at low (15 * (t / 16) + k)) (t % 16)
-  unfolding blockIn
-  zero-is = at-table 16 (coefficients (at dc (t / 16)) (λ k. at low (15 * (t / 16) + k))) (t % 16) (omega arith)
-
   in-dc : t % 16 ≡ 0 → zeroOf dc low t ≡ at dc (t / 16)
-  in-dc e = zero-is ∙ first-or-next _ _ (t % 16) .0 e
+  in-dc e = at-block dc low (t / 16) (t % 16) (omega arith) ∙ sym (first-coefficient _ _ (t % 16) e)
 
-  in-low : 0 < t % 16 → zeroOf dc low t ≡ at low (15 * (t / 16) + (t % 16 - 1))
-  in-low h = zero-is ∙ first-or-next _ _ (t % 16) .1 h
+  in-low : (t % 16 ≡ 0 → ⊥) → zeroOf dc low t ≡ at low (15 * (t / 16) + (t % 16 - 1))
+  in-low o = at-block dc low (t / 16) (t % 16) (omega arith) ∙ sym (later-coefficient _ (λ k. at low (15 * (t / 16) + k)) (t % 16) o)
 
--- the row of blocks k of macroblock m: in row 0 the first is the DC number
-abbrev Row : ℕ → ℕ → ℕ → Type 0
-Row m k = InRows k (k + 1) m (m + 1)
-
-in-row : (m k : ℕ) → k < 4 → (t : ℕ) → (t < 16 * m + 4 * k → ⊥) → t < 16 * m + 4 * k + 4 → Row m k t
-in-row m k b t u v = ((omega (arith, u), omega (arith, u)), omega (arith, u), omega (arith, u))
+low-kept : (m k : ℕ) → k < 4 → {i n : ℕ} {f : ℕ → ℤ} {low low' : List ℤ} → i ≡ 15 * m + (4 * k - 1) → i + n ≡ 15 * m + 4 * k + 3 → Placed i n f low low' → (t : ℕ) → (InRow m k t → ⊥) → (t % 16 ≡ 0 → ⊥)
+    → at low' (15 * (t / 16) + (t % 16 - 1)) ≡ at low (15 * (t / 16) + (t % 16 - 1))
+low-kept m k few begins ends p t n o = outside m k few t n (λ u. p .below _ (omega (arith, u, o))) (λ u. p .above _ (omega (arith, u, o)))
 
 pub zeros-first : (m : ℕ) (z dc low : List ℤ) {x : ℤ} {low' : List ℤ} {from : ℕ} → m < length dc → from ≡ 15 * m → x ≡ at z 0 → Placed from 3 (λ j. at z (j + 1)) low low'
-    → Replaced (Row m 0) (λ t. at z (t % 4)) (zeroOf dc low) (zeroOf (set dc m x) low')
+    → Replaced (InRow m 0) (λ t. at z (t % 4)) (zeroOf dc low) (zeroOf (set dc m x) low')
 zeros-first m z dc low {x} {low'} room e is p = record {
   own = λ t h. by-cases (ℕ-discrete (t % 16) 0)
       (λ y. in-dc _ low' t y ∙ ap (at (set dc m x)) (omega (arith, h)) ∙ getD-set-same dc m x (pos 0) room ∙ is ∙ ap (at z) (omega (arith, y)))
-      (λ o. in-low _ low' t (omega (arith, o)) ∙ ap (at low') (omega (arith, h)) ∙ p .own (t % 16 - 1) (omega (arith, o, h)) ∙ ap (at z) (omega (arith, o, h)));
+      (λ o. in-low _ low' t o ∙ ap (at low') (omega (arith, h)) ∙ p .own (t % 16 - 1) (omega (arith, o, h)) ∙ ap (at z) (omega (arith, o, h)));
   others = λ t n. by-cases (ℕ-discrete (t % 16) 0)
       (λ y. in-dc _ low' t y ∙ getD-set-other dc m (t / 16) x (pos 0) (λ l. n ((omega (arith, l), omega (arith, l)), omega (arith, y), omega (arith, y))) ∙ sym (in-dc dc low t y))
-      (λ o. in-low _ low' t (omega (arith, o)) ∙ outside t n o ∙ sym (in-low dc low t (omega (arith, o))));
+      (λ o. in-low _ low' t o ∙ low-kept m 0 (omega arith) (omega arith) (omega arith) p t n o ∙ sym (in-low dc low t o));
 }
-  where
-    outside : (t : ℕ) → (Row m 0 t → ⊥) → (t % 16 ≡ 0 → ⊥) → at low' (15 * (t / 16) + (t % 16 - 1)) ≡ at low (15 * (t / 16) + (t % 16 - 1))
-    outside t n o = by-cases (decLt t (16 * m + 0)) (λ u. p .below _ (omega (arith, u, o)))
-        (λ u. by-cases (decLt t (16 * m + 0 + 4)) (λ v. absurd (n (in-row m 0 (omega arith) t u v))) (λ v. p .above _ (omega (arith, v, o))))
 
 pub zeros-next : (m k : ℕ) (z dc low : List ℤ) {low' : List ℤ} {from : ℕ} → from ≡ 15 * m → 0 < k → k < 4 → Placed (from + (4 * k - 1)) 4 (at z) low low'
-    → Replaced (Row m k) (λ t. at z (t % 4)) (zeroOf dc low) (zeroOf dc low')
+    → Replaced (InRow m k) (λ t. at z (t % 4)) (zeroOf dc low) (zeroOf dc low')
 zeros-next m k z dc low {low'} e a b p = record {
-  own = λ t h. in-low dc low' t (omega (arith, h)) ∙ ap (at low') (omega (arith, h)) ∙ p .own (t % 4) (omega arith);
+  own = λ t h. in-low dc low' t (λ y. absurd (omega (arith, h, y))) ∙ ap (at low') (omega (arith, h)) ∙ p .own (t % 4) (omega arith);
   others = λ t n. by-cases (ℕ-discrete (t % 16) 0)
       (λ y. in-dc dc low' t y ∙ sym (in-dc dc low t y))
-      (λ o. in-low dc low' t (omega (arith, o)) ∙ outside t n o ∙ sym (in-low dc low t (omega (arith, o))));
+      (λ o. in-low dc low' t o ∙ low-kept m k b (omega arith) (omega arith) p t n o ∙ sym (in-low dc low t o));
 }
-  where
-    outside : (t : ℕ) → (Row m k t → ⊥) → (t % 16 ≡ 0 → ⊥) → at low' (15 * (t / 16) + (t % 16 - 1)) ≡ at low (15 * (t / 16) + (t % 16 - 1))
-    outside t n o = by-cases (decLt t (16 * m + 4 * k)) (λ u. p .below _ (omega (arith, u, o)))
-        (λ u. by-cases (decLt t (16 * m + 4 * k + 4)) (λ v. absurd (n (in-row m k b t u v))) (λ v. p .above _ (omega (arith, v, o))))
 
 -- ---- four blocks side by side: their coefficients 0 among DC and low-pass, the others in their part of the high-pass plane
-
-length-undone : (w i : ℕ) (grid : List ℤ) → length (undoneAt w i grid) ≡ 16
-unfolding undoneAt undoBy core get
-length-undone w i grid = refl
 
 -- row k of macroblock m from four squares of a grid of w columns, of which the first begins at place j
 module _ (w j : ℕ) (grid : List ℤ) (m k : ℕ) where
   pub blocks-replaced : (z dc low dc' low' : List ℤ) {high high' : List ℤ} {from : ℕ} → k < 4 → from ≡ 240 * m + 60 * k → ((l : ℕ) → l < 4 → at z l ≡ at (undoneAt w (j + 4 * l) grid) 0)
-      → Placed from 60 (λ n. at (undoneAt w (j + 4 * (n / 15)) grid) (n % 15 + 1)) high high' → Replaced (Row m k) (λ t. at z (t % 4)) (zeroOf dc low) (zeroOf dc' low')
-      → Replaced (Row m k) (λ t. undoneAt w (j + 4 * (t % 4)) grid) (blockOf dc low high) (blockOf dc' low' high')
+      → Placed from 60 (λ n. at (undoneAt w (j + 4 * (n / 15)) grid) (n % 15 + 1)) high high' → Replaced (InRow m k) (λ t. at z (t % 4)) (zeroOf dc low) (zeroOf dc' low')
+      → Replaced (InRow m k) (λ t. undoneAt w (j + 4 * (t % 4)) grid) (blockOf dc low high) (blockOf dc' low' high')
   unfolding blockOf
   blocks-replaced z dc low dc' low' {high' = high'} b e zeros p r = record {
     own = λ t h. block-is _ _ (length-undone w (j + 4 * (t % 4)) grid) (r .own t h ∙ zeros (t % 4) (omega arith))
         (λ i l. ap (at high') (omega (arith, h)) ∙ p .own (15 * (t % 4) + i) (omega arith) ∙ ap₂ (λ (a b : ℕ). at (undoneAt w (j + 4 * a) grid) b) (omega arith) (omega arith));
-    others = λ t n. same-block _ _ (r .others t n)
-        (λ i l. by-cases (decLt t (16 * m + 4 * k)) (λ u. p .below _ (omega (arith, u)))
-        (λ u. by-cases (decLt t (16 * m + 4 * k + 4)) (λ v. absurd (n (in-row m k b t u v))) (λ v. p .above _ (omega (arith, v)))));
+    others = λ t n. same-block _ _ (r .others t n) (λ i l. outside m k b t n (λ u. p .below _ (omega (arith, u))) (λ u. p .above _ (omega (arith, u))));
   }
 
   -- as blocks of a macroblock whose first number stands at place i
-  pub side-by-side : (i : ℕ) → j ≡ i + k * (4 * w) → (t : ℕ) → Row m k t → undoneAt w (j + 4 * (t % 4)) grid ≡ undoneIn w i grid (t % 16)
+  pub side-by-side : (i : ℕ) → j ≡ i + k * (4 * w) → (t : ℕ) → InRow m k t → undoneAt w (j + 4 * (t % 4)) grid ≡ undoneIn w i grid (t % 16)
   side-by-side i begins t h = ap (λ (a : ℕ). undoneAt w a grid) place ∙ ap₂ (λ (a b : ℕ). undoneAt w (i + 4 * a * w + 4 * b) grid) (omega (arith, h)) (omega arith)
     where
       place : j + 4 * (t % 4) ≡ i + 4 * k * w + 4 * (t % 4)

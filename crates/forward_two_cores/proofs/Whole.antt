@@ -19,7 +19,7 @@ use Rattle.transform.proofs.Grid.{grid-is, at-first}
 use Rattle.transform.proofs.Alone.{core-alone, core-undone-at}
 use Rattle.forward_kernel.specs.Placed.{blockIn}
 use Rattle.forward_two_cores.specs.Blocks.{blockOf, squareIn}
-use Rattle.forward_kernel.proofs.Stores.{same-block}
+use Rattle.forward_kernel.proofs.Stores.{same-block, at-block}
 
 -- the numbers of square s of a grid p squares wide
 abbrev squareOfGrid : ℕ → ℕ → List ℤ → List ℤ
@@ -40,12 +40,11 @@ module _ {W : ℕ} (wide : 0 < W) (H : ℕ) (tall : 0 < H) where
 
   -- the number that level one has at a block's place is one of its macroblock's
   view-is : (dc low : List ℤ) (b : ℕ) → b < 16 * (W * H) → at (firstGrid W H dc low) b ≡ at (blockIn dc low (blockOrder W b / 16)) (blockOrder W b % 16)
-  unfolding blockIn
   view-is dc low b h =
       let t = blockOrder W b in
       let l = order-low wide H b h in
       ap (at (firstGrid W H dc low)) (sym (block-of-order wide b)) ∙ at-first wide H dc low (t / 16) (t % 16) (omega arith) (omega arith)
-      ∙ sym (at-table 16 (coefficients (at dc (t / 16)) (λ j. at low (15 * (t / 16) + j))) (t % 16) (omega arith))
+      ∙ sym (at-block dc low (t / 16) (t % 16) (omega arith))
 
   -- its block's numbers, as the grid of level two takes them
   block-numbers : (dc low high : List ℤ) (b : ℕ) → b < 16 * (W * H) → table 16 (coefficients (at (firstGrid W H dc low) b) (λ j. at high (15 * blockOrder W b + j))) ≡ blockOf dc low high (blockOrder W b)

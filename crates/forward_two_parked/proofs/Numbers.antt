@@ -2,7 +2,7 @@
 use Prim.Native.Nat.{ℕ, zero, suc, _+_, _-_, _*_, _/_, _%_, _≤_, _<_}
 use mathlib.Core.Path.{_≡_, refl, sym, _∙_, ap, ap₂}
 use mathlib.Core.Logic.{by-cases}
-use mathlib.Core.List.{List, []}
+use mathlib.Core.List.{List}
 use native.Mathlib.Omega.{arith}
 use native.Mathlib.Decide.{ℕ-discrete, decLt}
 use lib.ListN.{length, set}
@@ -16,7 +16,7 @@ use Rattle.picture.proofs.Table.{at-table}
 use Rattle.forward_kernel.specs.Placed.{Placed, blockIn}
 use Rattle.forward_kernel.proofs.Stores.{placed-none, placed-next, placed-after, four-placed, below-four}
 use Rattle.forward_two_cores.specs.Blocks.{blockOf}
-use Rattle.forward_kernel.proofs.Stores.{same-block}
+use Rattle.forward_kernel.proofs.Stores.{same-block, at-block}
 use Rattle.forward_two_edges.specs.Strip.{Kept}
 use Rattle.forward_two_edges.proofs.Strips.{kept-as, kept-then}
 use Rattle.forward_two_parked.specs.Parked.{placeIn, Parked, Fetched, ZerosParked, RestParked}
@@ -28,10 +28,6 @@ same-number x y f g zero e h = e
 same-number x y f g (suc j) e h = h j (omega arith)
 
 module _ (dc low high : List ℤ) where
-  pub zero-at : (m k : ℕ) → k < 16 → at (blockIn dc low m) k ≡ coefficients (at dc m) (λ i. at low (15 * m + i)) k
-  unfolding blockIn
-  zero-at m k h = at-table 16 (coefficients (at dc m) (λ i. at low (15 * m + i))) k h
-
   pub block-at : (t j : ℕ) → j < 16 → at (blockOf dc low high t) j ≡ coefficients (at (blockIn dc low (t / 16)) (t % 16)) (λ i. at high (15 * t + i)) j
   unfolding blockOf
   block-at t j h = at-table 16 (coefficients (at (blockIn dc low (t / 16)) (t % 16)) (λ i. at high (15 * t + i))) j h
@@ -91,7 +87,7 @@ zeros-parked m b strip dc low x0 x1 x2 x3 room more e0 e1 e2 e3 =
     let low' = set (set (set low (15 * m) x1) (15 * m + 1) x2) (15 * m + 2) x3 in
     let p = placed-next (15 * m) 2 f (15 * m + 2) refl (omega arith) e3 (placed-next (15 * m) 1 f (15 * m + 1) refl (omega arith) e2 (placed-next (15 * m) 0 f (15 * m) (omega arith) (omega arith) e1 (placed-none (15 * m) f low))) in
     record {
-      own = λ k h. zero-at dc' low' [] m k (omega arith)
+      own = λ k h. at-block dc' low' m k (omega arith)
           ∙ below-four (λ i. coefficients (at dc' m) (λ n. at low' (15 * m + n)) i ≡ at strip (1152 + 16 * b + 4 * i))
           (getD-set-same dc m x0 (pos 0) room ∙ e0 ∙ ap (at strip) (omega arith)) (p .own 0 (omega arith)) (p .own 1 (omega arith)) (p .own 2 (omega arith)) k h;
       others = λ s o. same-block _ _ (getD-set-other dc m s x0 (pos 0) o) (λ k h. by-cases (decLt s m) (λ l. p .below (15 * s + k) (omega arith)) (λ l. p .above (15 * s + k) (omega (arith, l, o))));

@@ -1,7 +1,7 @@
 -- A grid put together of planes gives the planes back, and the planes of a grid give the grid back: the coefficient k of the square s stands at one place,
 -- where no other does. One argument serves both levels, over the order in which the squares' coefficients 1 to 15 follow each other in their plane.
-use Prim.Native.Nat.{ℕ, zero, suc, _+_, _*_, _/_, _%_, _<_}
-use mathlib.Core.Path.{_≡_, refl, sym, _∙_, ap, ap₂}
+use Prim.Native.Nat.{ℕ, zero, suc, _+_, _-_, _*_, _/_, _%_, _<_}
+use mathlib.Core.Path.{_≡_, refl, _∙_, ap, ap₂}
 use mathlib.Core.List.{List}
 use native.Mathlib.Omega.{arith}
 use native.Mathlib.Numerals.{add-one}
@@ -38,6 +38,16 @@ length-grid p q f = length-table (16 * (p * q)) _
 pub row-grid : (p q : ℕ) (f : ℕ → ℕ → ℤ) → ((s k : ℕ) → SFits w32 (f s k)) → Row (16 * (p * q)) (grid p q f)
 unfolding grid
 row-grid p q f h = row-table (16 * (p * q)) _ (λ i l. h (squareOf p i) (coefficientOf p i))
+
+-- ---- coefficient 0, or one of the others
+
+pub first-coefficient : (x : ℤ) (f : ℕ → ℤ) (k : ℕ) → k ≡ 0 → x ≡ coefficients x f k
+first-coefficient x f zero e = refl
+first-coefficient x f (suc k) e = absurd (omega arith)
+
+pub later-coefficient : (x : ℤ) (f : ℕ → ℤ) (k : ℕ) → (k ≡ 0 → ⊥) → f (k - 1) ≡ coefficients x f k
+later-coefficient x f zero h = absurd (h refl)
+later-coefficient x f (suc k) h = let e : suc k - 1 ≡ k = omega arith in ap f e
 
 -- ---- coefficients 0 in one list, and in another the coefficients 1 to 15 of square after square: those of the square s are the `order s`th fifteen
 

@@ -2,7 +2,7 @@
 use mathlib.Core.Path.{_∙_}
 use borrow.Author.Needs.{needs}
 use Rattle.lifting.proofs.Bits.{back}
-use Rattle.cores_told.proofs.Blocks.{first-coefficient, later-coefficient}
+use Rattle.transform.proofs.Grid.{first-coefficient, later-coefficient}
 use Rattle.cores_told.proofs.zero_of.Statement.{statement}
 use Rattle.cores_told.proofs.zero_of.Tie as tie
 

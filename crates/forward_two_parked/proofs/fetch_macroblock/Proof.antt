@@ -7,13 +7,13 @@ use borrow.Author.Needs.{needs}
 use Rattle.lifting.specs.Program.{at}
 use Rattle.lifting.proofs.Bits.{back}
 use Rattle.figures.proofs.Parts.{kept}
-use Rattle.forward_kernel.proofs.Stores.{below-four}
+use Rattle.forward_kernel.proofs.Stores.{at-block, below-four}
 use Rattle.forward_kernel.specs.Placed.{blockIn}
 use Rattle.forward_two_cores.specs.Blocks.{blockOf}
 use Rattle.forward_two_edges.specs.Strip.{Kept}
 use Rattle.forward_two_edges.proofs.Strips.{kept-none, kept-as, kept-then}
 use Rattle.forward_two_parked.specs.Parked.{placeIn}
-use Rattle.forward_two_parked.proofs.Numbers.{zero-at, block-of, blocks-fetched}
+use Rattle.forward_two_parked.proofs.Numbers.{block-of, blocks-fetched}
 use Rattle.forward_two_parked.proofs.fetch_macroblock.Statement.{statement}
 use Rattle.forward_two_parked.proofs.fetch_macroblock.Tie as tie
 
@@ -52,8 +52,8 @@ loop-again c =
     let zeros = kept (at dc m) ∷ kept (at low from) ∷ kept (at low (from + 1)) ∷ kept (at low (from + 2)) ∷ [] in
     let part : from ≡ 15 * m = s .pre .0 .0 in
     let first : at zeros k ≡ at (blockIn dc low m) k =
-    below-four (λ i. at zeros i ≡ at (blockIn dc low m) i) (back (t1 .t13 .given) ∙ sym (zero-at dc low [] m 0 (omega arith))) (back (t2 .t16 .given) ∙ ap (at low) (omega (arith, part)) ∙ sym (zero-at dc low [] m 1 (omega arith)))
-    (back (t3 .t20 .given) ∙ ap (at low) (omega (arith, part)) ∙ sym (zero-at dc low [] m 2 (omega arith))) (back (t4 .t24 .given) ∙ ap (at low) (omega (arith, part)) ∙ sym (zero-at dc low [] m 3 (omega arith))) k few in (
+    below-four (λ i. at zeros i ≡ at (blockIn dc low m) i) (back (t1 .t13 .given) ∙ sym (at-block dc low m 0 (omega arith))) (back (t2 .t16 .given) ∙ ap (at low) (omega (arith, part)) ∙ sym (at-block dc low m 1 (omega arith)))
+    (back (t3 .t20 .given) ∙ ap (at low) (omega (arith, part)) ∙ sym (at-block dc low m 2 (omega arith))) (back (t4 .t24 .given) ∙ ap (at low) (omega (arith, part)) ∙ sym (at-block dc low m 3 (omega arith))) k few in (
       omega (arith, few),
       blocks-fetched (blockOf dc low (a .high .now)) m (a .b) k (s .pre .1 .1 .0) few (λ j h. e .0 j h ∙ block-of dc low (a .high .now) m (a .cells .high) k j (kept (at zeros k)) (s .pre .0 .1) (omega (arith, few)) (omega arith) (back (read .fetch-block-arg .given) ∙ first)) (e .1) (v .1),
       kept-then (v .2) (kept-as 0 2 (16 * a .b) (16 * a .b + 16) (omega arith) (omega arith) (omega arith) (omega (arith, few)) (e .1)),
