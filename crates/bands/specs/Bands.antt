@@ -2,17 +2,17 @@
 use Rattle.std.specs.Prelude.{ℕ, ◌≤◌, ◌≡◌, Bool, false, ◌||◌, List, [], ◌∷◌, map, ℤ, length}
 use Rattle.picture.specs.Planes.{Planes, planes}
 use Rattle.step_sizes.specs.Steps.{step_of}
-use Rattle.step_sizes.specs.Levels.{outOfRange}
+use Rattle.step_sizes.specs.Levels.{is_out_of_range}
 use Rattle.bands.specs.declared.steps.Steps.{Steps}
 
 -- each number of each band by the band's step
-abbrev pub byBands : (ℕ → ℤ → ℤ) → Steps → Planes → Planes
-byBands f steps s = planes (map (f (step_of steps.dc)) s.dc) (map (f (step_of steps.low)) s.low) (map (f (step_of steps.high)) s.high)
+abbrev pub by_bands : (ℕ → ℤ → ℤ) → Steps → Planes → Planes
+by_bands f steps s = planes (map (f (step_of steps.dc)) s.dc) (map (f (step_of steps.low)) s.low) (map (f (step_of steps.high)) s.high)
 
 -- some number of a plane is outside the signed 32-bit range
-abbrev pub anyOut : List ℤ → Bool
-anyOut [] = false
-anyOut (x ∷ xs) = outOfRange x || anyOut xs
+abbrev pub any_out : List ℤ → Bool
+any_out [] = false
+any_out (x ∷ xs) = is_out_of_range x || any_out xs
 
 -- ---- what the work behind the calls asks: indices of the table, and planes of the same lengths
 

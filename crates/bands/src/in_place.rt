@@ -2,7 +2,7 @@
 ghost use Rattle.std.specs.Prelude.{◌≡◌, false, map, ◌≤◌};
 ghost use Rattle.step_sizes.specs.Steps.{step_of};
 ghost use Rattle.step_sizes.specs.Levels.{quantised, restored};
-ghost use Rattle.bands.specs.Bands.{anyOut};
+ghost use Rattle.bands.specs.Bands.{any_out};
 
 use step_sizes::division::divisor_of;
 use step_sizes::nearest::{round_limits, round_number};
@@ -12,7 +12,7 @@ use step_sizes::number::outside;
 // early end, so that it goes by fours.
 pub fn round_plane(index: u32, plane: &mut [i32]) -> bool
     requires { index ≤ 255 }
-    ensures value { result ≡ anyOut (map (restored (step_of index)) (map (quantised (step_of index)) plane.old)) }
+    ensures value { result ≡ any_out (map (restored (step_of index)) (map (quantised (step_of index)) plane.old)) }
     ensures plane_after { result ≡ false → plane.new ≡ map (restored (step_of index)) (map (quantised (step_of index)) plane.old) }
 {
     let by = divisor_of(index);

@@ -2,7 +2,7 @@
 ghost use Rattle.std.specs.Prelude.{◌≡◌, false, map, ◌≤◌, length};
 ghost use Rattle.step_sizes.specs.Steps.{step_of};
 ghost use Rattle.step_sizes.specs.Levels.{quantised, restored};
-ghost use Rattle.bands.specs.Bands.{anyOut};
+ghost use Rattle.bands.specs.Bands.{any_out};
 
 use step_sizes::division::divisor_of;
 use step_sizes::number::{limits_of, outside, quantise_number, restore_number};
@@ -22,7 +22,7 @@ pub fn quantise_plane(index: u32, plane: &[i32], levels: &mut [i32])
 // Whether the product of any level and the step is outside the signed 32-bit range. The walk has no early end, so that it goes by fours.
 pub fn any_leaves_range(index: u32, levels: &[i32]) -> bool
     requires { index ≤ 255 }
-    ensures { result ≡ anyOut (map (restored (step_of index)) levels.now) }
+    ensures { result ≡ any_out (map (restored (step_of index)) levels.now) }
 {
     let limits = limits_of(step(index));
     let mut out = false;
@@ -34,7 +34,7 @@ pub fn any_leaves_range(index: u32, levels: &[i32]) -> bool
 
 pub fn restore_plane(index: u32, levels: &[i32], plane: &mut [i32])
     requires index_bound { index ≤ 255 }
-    requires levels_value { anyOut (map (restored (step_of index)) levels.now) ≡ false }
+    requires levels_value { any_out (map (restored (step_of index)) levels.now) ≡ false }
     requires levels_len { length levels.now ≡ length plane.old }
     ensures { plane.new ≡ map (restored (step_of index)) levels.now }
 {

@@ -2,7 +2,7 @@
 ghost use Rattle.std.specs.Prelude.{◌≡◌, ◌≤◌};
 ghost use Rattle.picture.specs.Numbers.{first_of};
 ghost use Rattle.picture.specs.Planes.{planes};
-ghost use Rattle.bands.specs.Numbers.{stepCheck, bandChecks};
+ghost use Rattle.bands.specs.Numbers.{step_check, band_checks};
 
 use picture::checks::check_planes;
 use picture::counts::Area;
@@ -18,7 +18,7 @@ pub struct Steps {
 
 // The number of an index above 255, whichever band it is of, or 0.
 fn check_steps(steps: Steps) -> u32
-    ensures { result ≡ first_of (stepCheck steps) }
+    ensures { result ≡ first_of (step_check steps) }
 {
     if 255 < steps.dc {
         return STEP_INDEX;
@@ -45,7 +45,7 @@ pub fn check_bands(
 ) -> u32
     requires { n.0 ≤ 216825 }
     ensures { result ≡
-        first_of (bandChecks n.0 steps (planes dc.now low.now high.now) (planes dc_into.now low_into.now high_into.now)) }
+        first_of (band_checks n.0 steps (planes dc.now low.now high.now) (planes dc_into.now low_into.now high_into.now)) }
 {
     let steps_number = check_steps(steps);
     if steps_number != 0 {

@@ -11,8 +11,8 @@ use Rattle.lifting.proofs.Tests.{or_swap}
 use Rattle.figures.specs.Block.{flat, list}
 use Rattle.figures.specs.declared.Four.{Four}
 use Rattle.blocks.specs.declared.Quads.{Quads}
-use Rattle.blocks.specs.Quads.{onSome}
-use Rattle.figures.proofs.Parts.{keptFour}
+use Rattle.blocks.specs.Quads.{on_some}
+use Rattle.figures.proofs.Parts.{kept_four}
 
 -- ---- the numbers of a block
 
@@ -35,28 +35,28 @@ at-flat b k h =
 
 -- ---- fours, as locals hold them
 
-abbrev pub fourOf : List ℤ → Four
-fourOf w = record { a = at w 0; b = at w 1; c = at w 2; d = at w 3 }
+abbrev pub four_of : List ℤ → Four
+four_of w = record { a = at w 0; b = at w 1; c = at w 2; d = at w 3 }
 
 -- a four that is known as a list
-pub four_is : {f : Four} {w : List ℤ} → list f ≡ w → f ≡ fourOf w
-four_is e = ap fourOf e
+pub four_is : {f : Four} {w : List ℤ} → list f ≡ w → f ≡ four_of w
+four_is e = ap four_of e
 
-abbrev pub keptQuads : Quads → Quads
-keptQuads f = record { p = keptFour f.p; q = keptFour f.q; r = keptFour f.r; s = keptFour f.s }
+abbrev pub kept_quads : Quads → Quads
+kept_quads f = record { p = kept_four f.p; q = kept_four f.q; r = kept_four f.r; s = kept_four f.s }
 
-pub quads : (f : Quads) → keptFour f.p ≡ f.p → keptFour f.q ≡ f.q → keptFour f.r ≡ f.r → keptFour f.s ≡ f.s → keptQuads f ≡ f
+pub quads : (f : Quads) → kept_four f.p ≡ f.p → kept_four f.q ≡ f.q → kept_four f.r ≡ f.r → kept_four f.s ≡ f.s → kept_quads f ≡ f
 quads f p q r s = rw (p, q, r, s)
 
 -- ---- what is told of four uses
 
-pub ask-four : (t a b c d : Bool) {p q r s : Bool} → p ≡ t && a → q ≡ t && b → r ≡ t && c → s ≡ t && d → p || q || r || s ≡ t && (a || b || c || d)
-ask-four t a b c d e f g h = rw (e, f, g, h, and-or_distrib_left t (a || b || c) d, and-or_distrib_left t (a || b) c, and-or_distrib_left t a b)
+pub ask_four : (t a b c d : Bool) {p q r s : Bool} → p ≡ t && a → q ≡ t && b → r ≡ t && c → s ≡ t && d → p || q || r || s ≡ t && (a || b || c || d)
+ask_four t a b c d e f g h = rw (e, f, g, h, and-or_distrib_left t (a || b || c) d, and-or_distrib_left t (a || b) c, and-or_distrib_left t a b)
 
-last-first : (p q r s : Bool) → p || q || r || s ≡ s || r || q || p
-last-first p q r s =
+last_first : (p q r s : Bool) → p || q || r || s ≡ s || r || q || p
+last_first p q r s =
     or_swap (p || q) r s ∙ ap (λ x. x || r) (or_swap p q s ∙ ap (λ x. x || q) (or_swap false p s)) ∙ or_swap (s || p) q r ∙ ap (λ x. x || q) (or_swap s p r) ∙ or_swap (s || r) p q
 
 -- the last use first, as they are undone
-pub some_back : (f g h k : List ℤ → Bool) (v : Quads) → onSome f g h k v ≡ k (list v.s) || h (list v.r) || g (list v.q) || f (list v.p)
-some_back f g h k v = last-first (f (list v.p)) (g (list v.q)) (h (list v.r)) (k (list v.s))
+pub some_back : (f g h k : List ℤ → Bool) (v : Quads) → on_some f g h k v ≡ k (list v.s) || h (list v.r) || g (list v.q) || f (list v.p)
+some_back f g h k v = last_first (f (list v.p)) (g (list v.q)) (h (list v.r)) (k (list v.s))

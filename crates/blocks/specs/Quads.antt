@@ -30,8 +30,8 @@ abbrev pub OnEach : (List ℤ → List ℤ) → Quads → Quads → Type 0
 OnEach f v w = OnFours f f f f v w
 
 -- f holds of the first four, or g of the second, or h of the third, or k of the last
-abbrev pub onSome : (f g h k : List ℤ → Bool) → Quads → Bool
-onSome f g h k v = f (list v.p) || g (list v.q) || h (list v.r) || k (list v.s)
+abbrev pub on_some : (f g h k : List ℤ → Bool) → Quads → Bool
+on_some f g h k v = f (list v.p) || g (list v.q) || h (list v.r) || k (list v.s)
 
-abbrev pub onAny : (List ℤ → Bool) → Quads → Bool
-onAny f v = onSome f f f f v
+abbrev pub on_any : (List ℤ → Bool) → Quads → Bool
+on_any f v = on_some f f f f v

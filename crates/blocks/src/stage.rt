@@ -1,9 +1,9 @@
 // The stage that Figures 4.8 and 4.14 share: Figure 4.4 with R = 0 on each mirrored four, which is its own undoing.
 ghost use Rattle.std.specs.Prelude.{◌≡◌, ◌&&◌, pos};
 ghost use Rattle.lifting.specs.Program.{run, undo};
-ghost use Rattle.lifting.specs.Wraps.{wraps, undoWraps};
+ghost use Rattle.lifting.specs.Wraps.{wraps, undo_wraps};
 ghost use Rattle.figures.specs.Figures.{hadamard as hadamardLines};
-ghost use Rattle.blocks.specs.Quads.{OnEach, onAny};
+ghost use Rattle.blocks.specs.Quads.{OnEach, on_any};
 
 use crate::{Quads, ToldQuads};
 use core_operators::transform::hadamard_told;
@@ -12,8 +12,8 @@ use core_operators::transform::hadamard_told;
 pub fn hadamards_told(tell: bool, v: Quads) -> ToldQuads
     ensures done { OnEach (run (hadamardLines (pos 0))) v result.quads }
     ensures undone { OnEach (undo (hadamardLines (pos 0))) v result.quads }
-    ensures told { result.wrapped ≡ tell && onAny (wraps (hadamardLines (pos 0))) v }
-    ensures untold { result.wrapped ≡ tell && onAny (undoWraps (hadamardLines (pos 0))) v }
+    ensures told { result.wrapped ≡ tell && on_any (wraps (hadamardLines (pos 0))) v }
+    ensures untold { result.wrapped ≡ tell && on_any (undo_wraps (hadamardLines (pos 0))) v }
 {
     let q_told = hadamard_told(tell, v.q, 0);
     let p_told = hadamard_told(tell, v.p, 0);

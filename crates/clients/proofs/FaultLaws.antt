@@ -10,14 +10,14 @@ use lib.IntN.{ℤ}
 use lib.ListN.{length}
 use borrow.Author.Tests.{lt-ltb, le-ltb, le-leb, lt-leb, eq-eqb}
 use Rattle.picture.specs.declared.size.Size.{Size}
-use Rattle.picture.specs.Modes.{modeAnswer, modeNumber}
+use Rattle.picture.specs.Modes.{mode_answer, mode_number}
 use Rattle.picture.specs.Planes.{Planes}
-use Rattle.picture.specs.Numbers.{◌if◌, first_of, settled, outside, unlike, shapeChecks, lowChecks, planeChecks, sampleCheck}
+use Rattle.picture.specs.Numbers.{◌if◌, first_of, settled, outside, unlike, shape_checks, low_checks, plane_checks, sample_check}
 use Rattle.picture.proofs.NumberLaws.{settled-done, settled-refused}
 use Rattle.picture.proofs.CheckLaws.{like}
 use Rattle.bands.specs.declared.steps.Steps.{Steps}
 use Rattle.clients.specs.Right.{Right, Indices, Room}
-use Rattle.clients.specs.Faults.{Fault, none, shapeFaults, lengthFault, lowFaults, planeFaults, sampleFault, indexFault}
+use Rattle.clients.specs.Faults.{Fault, none, shape_faults, length_fault, low_faults, plane_faults, sample_fault, index_fault}
 
 first : (k : ℕ) (checks : List ℕ) → T (ltb 0 k) → first_of (k ∷ checks) ≡ k
 first zero checks t = absurd t
@@ -27,12 +27,12 @@ first (suc k) checks t = refl
 pub record Told (checks : List ℕ) (P : ℕ → Type 0) : Type 0 where
   pub told : P (first_of checks)
 
-pub no-fault : Told [] none
-no-fault = record { told = refl }
+pub no_fault : Told [] none
+no_fault = record { told = refl }
 
-pub first-fault : {k : ℕ} {F : Type 0} {rest : ℕ → Type 0} {x : ℕ} {checks : List ℕ} → T (ltb 0 k) → (F → x ≡ k) → ((F → ⊥) → x ≡ 0)
+pub first_fault : {k : ℕ} {F : Type 0} {rest : ℕ → Type 0} {x : ℕ} {checks : List ℕ} → T (ltb 0 k) → (F → x ≡ k) → ((F → ⊥) → x ≡ 0)
     → Told checks rest → Told (x ∷ checks) (Fault k F rest)
-first-fault {k} {F} {rest} {x} {checks} t found passed r =
+first_fault {k} {F} {rest} {x} {checks} t found passed r =
     record {
       told =
           record {
@@ -43,19 +43,19 @@ first-fault {k} {F} {rest} {x} {checks} t found passed r =
 
 -- ---- mode and size
 
-unknown : (mode : ℕ) → 2 < mode → modeNumber (modeAnswer mode) ≡ 1
+unknown : (mode : ℕ) → 2 < mode → mode_number (mode_answer mode) ≡ 1
 unknown mode h = simp (lt-leb mode 2 h)
 
-known : (mode : ℕ) → mode ≤ 2 → modeNumber (modeAnswer mode) ≡ 0
+known : (mode : ℕ) → mode ≤ 2 → mode_number (mode_answer mode) ≡ 0
 known mode h = simp (le-leb mode 2 h)
 
-pub or-true : (a : Bool) → a || true ≡ true
-or-true true = refl
-or-true false = refl
+pub or_true : (a : Bool) → a || true ≡ true
+or_true true = refl
+or_true false = refl
 
 out : (k most x : ℕ) → (x < 1) ⊎ (most < x) → (k if outside most x) ≡ k
 out k most x (inl h) = simp (lt-ltb x 1 h)
-out k most x (inr h) = simp (lt-ltb most x h, or-true (ltb x 1))
+out k most x (inr h) = simp (lt-ltb most x h, or_true (ltb x 1))
 
 inside : (k most x : ℕ) → ((x < 1) ⊎ (most < x) → ⊥) → (k if outside most x) ≡ 0
 inside k most x n =
@@ -63,18 +63,18 @@ inside k most x n =
     let b : most < x → ⊥ = λ h. n (inr h) in
     simp (le-ltb x 1 (omega (arith, a)), le-ltb most x (omega (arith, b)))
 
-pub shape-faults : (mode : ℕ) (size : Size) {rest : ℕ → Type 0} {checks : List ℕ} → Told checks rest → Told (shapeChecks mode size ++ checks) (shapeFaults mode size rest)
-shape-faults mode size r =
+pub shape_faults_lem : (mode : ℕ) (size : Size) {rest : ℕ → Type 0} {checks : List ℕ} → Told checks rest → Told (shape_checks mode size ++ checks) (shape_faults mode size rest)
+shape_faults_lem mode size r =
     let W = size.width.0 in
     let H = size.height.0 in
-    first-fault tt (unknown mode) (λ n. known mode (omega (arith, n))) (first-fault tt (out 2 525 W) (inside 2 525 W) (first-fault tt (out 3 413 H) (inside 3 413 H) r))
+    first_fault tt (unknown mode) (λ n. known mode (omega (arith, n))) (first_fault tt (out 2 525 W) (inside 2 525 W) (first_fault tt (out 3 413 H) (inside 3 413 H) r))
 
 -- ---- lengths
 
 -- a test that is false where this holds, and only there
-pub unless-fault : (k : ℕ) (b : Bool) {F : Type 0} {rest : ℕ → Type 0} {checks : List ℕ} → T (ltb 0 k) → (b ≡ false → F) → (F → b ≡ false) → Told checks rest
+pub unless_fault : (k : ℕ) (b : Bool) {F : Type 0} {rest : ℕ → Type 0} {checks : List ℕ} → T (ltb 0 k) → (b ≡ false → F) → (F → b ≡ false) → Told checks rest
     → Told ((k if b) ∷ checks) (Fault k (F → ⊥) rest)
-unless-fault k b {F} t from to r = first-fault t (λ n. fails b refl n) (λ n. passes b refl n) r
+unless_fault k b {F} t from to r = first_fault t (λ n. fails b refl n) (λ n. passes b refl n) r
   where
     fails : (c : Bool) → b ≡ c → (F → ⊥) → (k if c) ≡ k
     fails true e n = refl
@@ -84,19 +84,19 @@ unless-fault k b {F} t from to r = first-fault t (λ n. fails b refl n) (λ n. p
     passes false e n = refl
     passes true e n = absurd (n (λ f. let q = to f in let z : ◌≡◌ {A = ℕ} 0 1 = cc in omega arith))
 
-pub length-fault : (k length wanted : ℕ) {rest : ℕ → Type 0} {checks : List ℕ} → T (ltb 0 k) → Told checks rest
-    → Told ((k if unlike length wanted) ∷ checks) (lengthFault k length wanted rest)
-length-fault k length wanted t r = unless-fault k (unlike length wanted) t (like length wanted) (λ e. simp (eq-eqb length wanted e)) r
+pub length_fault_lem : (k length wanted : ℕ) {rest : ℕ → Type 0} {checks : List ℕ} → T (ltb 0 k) → Told checks rest
+    → Told ((k if unlike length wanted) ∷ checks) (length_fault k length wanted rest)
+length_fault_lem k length wanted t r = unless_fault k (unlike length wanted) t (like length wanted) (λ e. simp (eq-eqb length wanted e)) r
 
-pub plane-faults : (n : ℕ) (s : Planes) {rest : ℕ → Type 0} {checks : List ℕ} → Told checks rest → Told (planeChecks n s ++ checks) (planeFaults n s rest)
-plane-faults n s r =
-    length-fault 4 (length s.dc) n tt (length-fault 5 (length s.low) (15 * n) tt (length-fault 6 (length s.high) (240 * n) tt r))
+pub plane_faults_lem : (n : ℕ) (s : Planes) {rest : ℕ → Type 0} {checks : List ℕ} → Told checks rest → Told (plane_checks n s ++ checks) (plane_faults n s rest)
+plane_faults_lem n s r =
+    length_fault_lem 4 (length s.dc) n tt (length_fault_lem 5 (length s.low) (15 * n) tt (length_fault_lem 6 (length s.high) (240 * n) tt r))
 
-pub low-faults : (n : ℕ) (dc low : List ℤ) {rest : ℕ → Type 0} {checks : List ℕ} → Told checks rest → Told (lowChecks n dc low ++ checks) (lowFaults n dc low rest)
-low-faults n dc low r = length-fault 4 (length dc) n tt (length-fault 5 (length low) (15 * n) tt r)
+pub low-faults : (n : ℕ) (dc low : List ℤ) {rest : ℕ → Type 0} {checks : List ℕ} → Told checks rest → Told (low_checks n dc low ++ checks) (low_faults n dc low rest)
+low-faults n dc low r = length_fault_lem 4 (length dc) n tt (length_fault_lem 5 (length low) (15 * n) tt r)
 
-pub sample-fault : (n : ℕ) (samples : List ℤ) {rest : ℕ → Type 0} {checks : List ℕ} → Told checks rest → Told (sampleCheck n samples ++ checks) (sampleFault n samples rest)
-sample-fault n samples r = length-fault 7 (length samples) (256 * n) tt r
+pub sample_fault_lem : (n : ℕ) (samples : List ℤ) {rest : ℕ → Type 0} {checks : List ℕ} → Told checks rest → Told (sample_check n samples ++ checks) (sample_fault n samples rest)
+sample_fault_lem n samples r = length_fault_lem 7 (length samples) (256 * n) tt r
 
 -- ---- arguments that are right have no fault
 
@@ -104,18 +104,18 @@ neither : {most x : ℕ} → 1 ≤ x → x ≤ most → (x < 1) ⊎ (most < x) �
 neither a b (inl h) = omega arith
 neither a b (inr h) = omega arith
 
-pub shape-right : {mode : ℕ} {size : Size} (rest : ℕ → Type 0) {k : ℕ} → Right mode size → shapeFaults mode size rest k → rest k
-shape-right rest r f = ((f.later (λ h. omega (arith, r.known, h))).later (neither r.wide r.most-wide)).later (neither r.tall r.most-tall)
+pub shape_right : {mode : ℕ} {size : Size} (rest : ℕ → Type 0) {k : ℕ} → Right mode size → shape_faults mode size rest k → rest k
+shape_right rest r f = ((f.later (λ h. omega (arith, r.known, h))).later (neither r.wide r.most-wide)).later (neither r.tall r.most-tall)
 
-pub indices-right : {steps : Steps} (rest : ℕ → Type 0) {k : ℕ} → Indices steps → indexFault steps rest k → rest k
-indices-right {steps} rest r f = f.later outside
+pub indices_right : {steps : Steps} (rest : ℕ → Type 0) {k : ℕ} → Indices steps → index_fault steps rest k → rest k
+indices_right {steps} rest r f = f.later outside
   where
     outside : (255 < steps.dc) ⊎ ((255 < steps.low) ⊎ (255 < steps.high)) → ⊥
     outside (inl h) = omega (arith, r.dc, h)
     outside (inr (inl h)) = omega (arith, r.low, h)
     outside (inr (inr h)) = omega (arith, r.high, h)
 
-pub planes-right : {n : ℕ} {s : Planes} (rest : ℕ → Type 0) {k : ℕ} → Room n s → planeFaults n s rest k → rest k
+pub planes-right : {n : ℕ} {s : Planes} (rest : ℕ → Type 0) {k : ℕ} → Room n s → plane_faults n s rest k → rest k
 planes-right rest r f = ((f.later (λ n. n r.dc)).later (λ n. n r.low)).later (λ n. n r.high)
 
 -- ---- what a number settled

@@ -14,31 +14,31 @@ use Rattle.picture.specs.declared.size.Size.{Size}
 use Rattle.picture.specs.Sizes.{macroblocks}
 use Rattle.picture.specs.Planes.{Planes}
 use Rattle.transform.specs.Transform.{inverse, forward}
-use Rattle.picture.specs.Numbers.{settled, shapeChecks}
-use Rattle.picture.proofs.NumberLaws.{both-pass, settled-done}
+use Rattle.picture.specs.Numbers.{settled, shape_checks}
+use Rattle.picture.proofs.NumberLaws.{both_pass, settled-done}
 use Rattle.picture.proofs.CheckLaws.{shaped}
-use Rattle.restore.specs.Restore.{restoredPlanes}
-use Rattle.quantise.specs.Quantise.{quantisedPlanes}
-use Rattle.tries.specs.Tries.{allBands, passes, triedPlanes, triedSamples}
-use Rattle.find_step.specs.FindStep.{Answer, IndexBeside, findNumber, lengthChecks}
-use Rattle.find_step.proofs.Checks.{lengths-fit}
+use Rattle.restore.specs.Restore.{restored_planes}
+use Rattle.quantise.specs.Quantise.{quantised_planes}
+use Rattle.tries.specs.Tries.{all_bands, passes, tried_planes, tried_samples}
+use Rattle.find_step.specs.FindStep.{Answer, IndexBeside, find_number, length_checks}
+use Rattle.find_step.proofs.Checks.{lengths_fit}
 use Rattle.corollaries.proofs.Sizes.{numbers}
-use Rattle.corollaries.proofs.Finder.{try-is-the-four-calls, answers-keep-the-tolerance}
+use Rattle.corollaries.proofs.Finder.{try_is_the_four_calls, answers_keep_the_tolerance}
 use Rattle.clients.specs.Right.{count}
 
 module _ (mode : ℕ) (size : Size) (tolerance : ℕ) (samples : List ℤ) where
   pub kept : (second : List ℤ) (s : Planes) (index : ℕ) {number : ℕ} {left : List ℤ} → Row (length samples) samples
-      → number ≡ findNumber mode size samples second s → IndexBeside number (passes mode size samples tolerance) index
-      → left ≡ settled number (triedSamples mode size samples index) second → number ≡ 0
+      → number ≡ find_number mode size samples second s → IndexBeside number (passes mode size samples tolerance) index
+      → left ≡ settled number (tried_samples mode size samples index) second → number ≡ 0
       → (i : ℕ) → i < 256 * count size → nat_abs (at samples i -ℤ at left i) ≤ tolerance
-  unfolding findNumber
+  unfolding find_number
   kept second s index {number} {left} row e beside left_by z i l =
-      let checks = lengthChecks (macroblocks size) samples second s in
-      let (first, rest) = both-pass (shapeChecks mode size) checks (sym e ∙ z) in
-      let fits = lengths-fit (macroblocks size) samples second s rest in
+      let checks = length_checks (macroblocks size) samples second s in
+      let (first, rest) = both_pass (shape_checks mode size) checks (sym e ∙ z) in
+      let fits = lengths_fit (macroblocks size) samples second s rest in
       let answer : Answer (passes mode size samples tolerance) index = subst (λ (k : ℕ). IndexBeside k (passes mode size samples tolerance) index) z beside in
       let r = shaped mode size first in
-      let near = answers-keep-the-tolerance mode size.width.0 size.height.0 r.known r.sized.wide r.sized.most-wide r.sized.tall r.sized.most-tall samples (numbers (row_as row fits.samples)) tolerance index answer in
+      let near = answers_keep_the_tolerance mode size.width.0 size.height.0 r.known r.sized.wide r.sized.most-wide r.sized.tall r.sized.most-tall samples (numbers (row_as row fits.samples)) tolerance index answer in
       subst (λ (v : List ℤ). nat_abs (at samples i -ℤ at v i) ≤ tolerance) (sym (left_by ∙ settled-done number _ _ z)) (near i l)
 
 -- ---- what else is found
@@ -53,13 +53,13 @@ none_passes zero test zero b z e j l h = b j (omega arith) h
 none_passes zero test (suc i) b z e j l h = absurd (omega (arith, e))
 none_passes (suc k) test index b z e j l h = absurd (omega (arith, z))
 
-pub refused-index : (k : ℕ) (test : ℕ → Bool) (index : ℕ) → IndexBeside k test index → (k ≡ 0 → ⊥) → index ≡ 0
-refused-index zero test index b n = absurd (n refl)
-refused-index (suc k) test index b n = b
+pub refused_index : (k : ℕ) (test : ℕ → Bool) (index : ℕ) → IndexBeside k test index → (k ≡ 0 → ⊥) → index ≡ 0
+refused_index zero test index b n = absurd (n refl)
+refused_index (suc k) test index b n = b
 
 module _ (mode : ℕ) (size : Size) (samples : List ℤ) (index : ℕ) where
-  pub restored-planes : triedPlanes mode size samples index ≡ restoredPlanes (allBands index) (quantisedPlanes (allBands index) (forward mode size samples))
-  restored-planes = (try-is-the-four-calls mode size.width.0 size.height.0 samples index).0
+  pub restored-planes : tried_planes mode size samples index ≡ restored_planes (all_bands index) (quantised_planes (all_bands index) (forward mode size samples))
+  restored-planes = (try_is_the_four_calls mode size.width.0 size.height.0 samples index).0
 
-  pub tried-samples : {s : Planes} {u : List ℤ} → u ≡ triedSamples mode size samples index → s ≡ triedPlanes mode size samples index → u ≡ inverse mode size s
-  tried-samples e p = e ∙ (try-is-the-four-calls mode size.width.0 size.height.0 samples index).1 ∙ ap (inverse mode size) (sym p)
+  pub tried_samples_lem : {s : Planes} {u : List ℤ} → u ≡ tried_samples mode size samples index → s ≡ tried_planes mode size samples index → u ≡ inverse mode size s
+  tried_samples_lem e p = e ∙ (try_is_the_four_calls mode size.width.0 size.height.0 samples index).1 ∙ ap (inverse mode size) (sym p)

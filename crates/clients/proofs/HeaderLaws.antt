@@ -10,46 +10,46 @@ use borrow.Author.Tests.{lt-ltb, le-ltb, eq-eqb}
 use Rattle.picture.specs.Planes.{Planes}
 use Rattle.picture.specs.Numbers.{◌if◌, settled}
 use Rattle.picture.proofs.NumberLaws.{settled-done, settled-refused}
-use Rattle.picture.proofs.CheckLaws.{either-false, like}
+use Rattle.picture.proofs.CheckLaws.{either_false, like}
 use Rattle.plane_file.specs.declared.header.Header.{Header}
-use Rattle.plane_file.specs.Layout.{planesIn}
-use Rattle.plane_file.specs.Words.{wordAt}
-use Rattle.plane_file.specs.Header.{words_of, sizeIn, answer}
-use Rattle.plane_file.specs.Numbers.{misplaced, startChecks, totalCheck, headerNumber, loadNumber}
-use Rattle.decode.specs.Program.{programNumber}
-use Rattle.clients.specs.Faults.{Placed, startFaults, totalFault, HeaderFaults, LoadFaults, ProgramFaults}
+use Rattle.plane_file.specs.Layout.{planes_in}
+use Rattle.plane_file.specs.Words.{word_at}
+use Rattle.plane_file.specs.Header.{words_of, size_in, answer}
+use Rattle.plane_file.specs.Numbers.{misplaced, start_checks, total_check, header_number, load_number}
+use Rattle.decode.specs.Program.{program_number}
+use Rattle.clients.specs.Faults.{Placed, start_faults, total_fault, HeaderFaults, LoadFaults, ProgramFaults}
 use Rattle.clients.specs.Header.{HeaderSaid}
-use Rattle.clients.proofs.FaultLaws.{Told, no-fault, first-fault, unless-fault, shape-faults, length-fault, plane-faults}
+use Rattle.clients.proofs.FaultLaws.{Told, no_fault, first_fault, unless_fault, shape_faults_lem, length_fault_lem, plane_faults_lem}
 
 module _ (bytes : List ℕ) where
   abbrev n : ℕ
-  n = wordAt bytes 4 * wordAt bytes 8
+  n = word_at bytes 4 * word_at bytes 8
 
   in_place : misplaced n (words_of bytes) ≡ false → Placed bytes n
   in_place e =
-      let p = either-false _ _ e in
-      let q = either-false _ _ p.0 in
-      let r = either-false _ _ q.0 in
+      let p = either_false _ _ e in
+      let q = either_false _ _ p.0 in
+      let r = either_false _ _ q.0 in
       record { dc = like _ _ r.0; low = like _ _ r.1; high = like _ _ q.1; total = like _ _ p.1 }
 
   placed : Placed bytes n → misplaced n (words_of bytes) ≡ false
   placed p = simp (eq-eqb _ _ p.dc, eq-eqb _ _ p.low, eq-eqb _ _ p.high, eq-eqb _ _ p.total)
 
-  start-told : {rest : ℕ → Type 0} {checks : List ℕ} → Told checks rest → Told (startChecks bytes ++ checks) (startFaults bytes rest)
-  start-told r =
-      first-fault tt (λ h. simp (lt-ltb (length bytes) 32 h)) (λ h. simp (le-ltb (length bytes) 32 (omega (arith, h))))
-      (shape-faults (wordAt bytes 0) (sizeIn bytes) (length-fault 10 (wordAt bytes 28) 0 tt (unless-fault 11 (misplaced n (words_of bytes)) tt in_place placed r)))
+  start_told : {rest : ℕ → Type 0} {checks : List ℕ} → Told checks rest → Told (start_checks bytes ++ checks) (start_faults bytes rest)
+  start_told r =
+      first_fault tt (λ h. simp (lt-ltb (length bytes) 32 h)) (λ h. simp (le-ltb (length bytes) 32 (omega (arith, h))))
+      (shape_faults_lem (word_at bytes 0) (size_in bytes) (length_fault_lem 10 (word_at bytes 28) 0 tt (unless_fault 11 (misplaced n (words_of bytes)) tt in_place placed r)))
 
-  total-told : {rest : ℕ → Type 0} {checks : List ℕ} → Told checks rest → Told (totalCheck n (length bytes) ++ checks) (totalFault bytes rest)
-  total-told r = length-fault 12 (length bytes) (32 + 1024 * n) tt r
+  total-told : {rest : ℕ → Type 0} {checks : List ℕ} → Told checks rest → Told (total_check n (length bytes) ++ checks) (total_fault bytes rest)
+  total-told r = length_fault_lem 12 (length bytes) (32 + 1024 * n) tt r
 
-  pub header-faults : HeaderFaults bytes (headerNumber bytes)
-  unfolding headerNumber
-  header-faults = record { faults = (start-told (total-told no-fault)).told }
+  pub header-faults : HeaderFaults bytes (header_number bytes)
+  unfolding header_number
+  header-faults = record { faults = (start_told (total-told no_fault)).told }
 
-  pub load-faults : (s : Planes) → LoadFaults bytes s (loadNumber bytes s)
-  unfolding loadNumber
-  load-faults s = record { faults = (start-told (total-told (plane-faults n s no-fault))).told }
+  pub load-faults : (s : Planes) → LoadFaults bytes s (load_number bytes s)
+  unfolding load_number
+  load-faults s = record { faults = (start_told (total-told (plane_faults_lem n s no_fault))).told }
 
   many : 16 < n → (13 if ltb 16 n) ≡ 13
   many h = simp (lt-ltb 16 n h)
@@ -57,9 +57,9 @@ module _ (bytes : List ℕ) where
   few : (16 < n → ⊥) → (13 if ltb 16 n) ≡ 0
   few h = simp (le-ltb 16 n (omega (arith, h)))
 
-  pub program-faults : ProgramFaults bytes (programNumber bytes)
-  unfolding programNumber
-  program-faults = record { faults = (start-told (first-fault tt many few (total-told no-fault))).told }
+  pub program_faults : ProgramFaults bytes (program_number bytes)
+  unfolding program_number
+  program_faults = record { faults = (start_told (first_fault tt many few (total-told no_fault))).told }
 
   -- ---- the answer
 
@@ -79,11 +79,11 @@ module _ (bytes : List ℕ) where
         refused = λ n. (ap (λ (h : Header). h.mode) e, ap (λ (h : Header). h.size.width.0) e, ap (λ (h : Header). h.size.height.0) e);
       }
 
-  module _ (k : ℕ) (was : Planes) {r : Header} {t : Planes} (e : r ≡ answer k bytes) (p : t ≡ settled k (planesIn bytes n) was) where
-    pub loaded-planes : r.number ≡ 0 → t ≡ planesIn bytes (r.size.width.0 * r.size.height.0)
+  module _ (k : ℕ) (was : Planes) {r : Header} {t : Planes} (e : r ≡ answer k bytes) (p : t ≡ settled k (planes_in bytes n) was) where
+    pub loaded-planes : r.number ≡ 0 → t ≡ planes_in bytes (r.size.width.0 * r.size.height.0)
     loaded-planes z =
         let d = (said k e).done z in
-        p ∙ settled-done k _ _ (sym (answer-number k e) ∙ z) ∙ ap (planesIn bytes) (ap (λ (w : ℕ). w * wordAt bytes 8) (sym d.1) ∙ ap (λ (h : ℕ). r.size.width.0 * h) (sym d.2))
+        p ∙ settled-done k _ _ (sym (answer-number k e) ∙ z) ∙ ap (planes_in bytes) (ap (λ (w : ℕ). w * word_at bytes 8) (sym d.1) ∙ ap (λ (h : ℕ). r.size.width.0 * h) (sym d.2))
 
     pub left-planes : (r.number ≡ 0 → ⊥) → t ≡ was
     left-planes h = p ∙ settled-refused k _ _ (λ z. h (answer-number k e ∙ z))

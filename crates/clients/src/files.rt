@@ -2,7 +2,7 @@
 ghost use Rattle.std.specs.Prelude.{◌≡◌, ◌+◌, ◌*◌, length};
 ghost use Rattle.picture.specs.Planes.{planes};
 ghost use Rattle.clients.specs.Right.{Right, Room, count};
-ghost use Rattle.plane_file.specs.Layout.{file, planesIn};
+ghost use Rattle.plane_file.specs.Layout.{file, planes_in};
 ghost use Rattle.clients.specs.Faults.{HeaderFaults, LoadFaults, SaveFaults};
 ghost use Rattle.clients.specs.Header.{HeaderSaid};
 
@@ -24,7 +24,7 @@ pub fn client_load(bytes: &[u8], dc: &mut [i32], low: &mut [i32], high: &mut [i3
     ensures number { LoadFaults bytes.now (planes dc.old low.old high.old) result.number }
     ensures said { HeaderSaid bytes.now result }
     ensures done { result.number ≡ 0 → planes dc.new low.new high.new ≡
-        planesIn bytes.now (result.size.width.0 * result.size.height.0) }
+        planes_in bytes.now (result.size.width.0 * result.size.height.0) }
     ensures refused { (result.number ≡ 0 → ⊥)
         → planes dc.new low.new high.new ≡ planes dc.old low.old high.old }
 {

@@ -1,8 +1,8 @@
 // Inverse, forward, quarter view and forecast, as they are used.
 ghost use Rattle.std.specs.Prelude.{◌≡◌, false, ◌*◌, length};
 ghost use Rattle.picture.specs.Planes.{planes};
-ghost use Rattle.transform.specs.Transform.{inverse as samplesOf, quarter, forward as planesOf};
-ghost use Rattle.transform.specs.Wraps.{inverseWraps, quarterWraps, forwardWraps};
+ghost use Rattle.transform.specs.Transform.{inverse as samples_of, quarter, forward as planes_of};
+ghost use Rattle.transform.specs.Wraps.{inverse_wraps, quarter_wraps, forward_wraps};
 ghost use Rattle.clients.specs.Right.{Right, Room, count};
 ghost use Rattle.clients.specs.Faults.{InverseFaults, QuarterFaults, ForwardFaults, ForecastFaults};
 ghost use Rattle.clients.specs.Work.{Forecast, NoForecast};
@@ -23,8 +23,8 @@ pub fn client_inverse(
     samples: &mut [i32],
 ) -> Answer
     ensures number { InverseFaults mode size (planes dc.now low.now high.now) samples.old result.number }
-    ensures done { result.number ≡ 0 → (samples.new ≡ samplesOf mode size (planes dc.now low.now high.now))
-        × (result.wrapped ≡ inverseWraps mode size (planes dc.now low.now high.now)) }
+    ensures done { result.number ≡ 0 → (samples.new ≡ samples_of mode size (planes dc.now low.now high.now))
+        × (result.wrapped ≡ inverse_wraps mode size (planes dc.now low.now high.now)) }
     ensures refused { (result.number ≡ 0 → ⊥) → (samples.new ≡ samples.old) × (result.wrapped ≡ false) }
 {
     lapped_inverse(mode, size, dc, low, high, samples)
@@ -34,7 +34,7 @@ pub fn client_inverse(
 pub fn client_quarter(mode: u32, size: Size, dc: &[i32], low: &[i32], view: &mut [i32]) -> Answer
     ensures number { QuarterFaults mode size dc.now low.now view.old result.number }
     ensures done { result.number ≡ 0 → (view.new ≡ quarter mode size dc.now low.now)
-        × (result.wrapped ≡ quarterWraps mode size dc.now low.now) }
+        × (result.wrapped ≡ quarter_wraps mode size dc.now low.now) }
     ensures refused { (result.number ≡ 0 → ⊥) → (view.new ≡ view.old) × (result.wrapped ≡ false) }
 {
     lapped_quarter(mode, size, dc, low, view)
@@ -50,8 +50,8 @@ pub fn client_forward(
     high: &mut [i32],
 ) -> Answer
     ensures number { ForwardFaults mode size samples.now (planes dc.old low.old high.old) result.number }
-    ensures done { result.number ≡ 0 → (planes dc.new low.new high.new ≡ planesOf mode size samples.now)
-        × (result.wrapped ≡ forwardWraps mode size samples.now) }
+    ensures done { result.number ≡ 0 → (planes dc.new low.new high.new ≡ planes_of mode size samples.now)
+        × (result.wrapped ≡ forward_wraps mode size samples.now) }
     ensures refused { (result.number ≡ 0 → ⊥)
         → (planes dc.new low.new high.new ≡ planes dc.old low.old high.old) × (result.wrapped ≡ false) }
 {
@@ -85,7 +85,7 @@ pub fn client_there_and_back(
         → length samples.old ≡ 256 * count size
         → (result.number ≡ 0)
         × (planes dc_again.new low_again.new high_again.new ≡ planes dc.now low.now high.now)
-        × (result.wrapped ≡ inverseWraps mode size (planes dc.now low.now high.now)) }
+        × (result.wrapped ≡ inverse_wraps mode size (planes dc.now low.now high.now)) }
 {
     in_range(dc);
     in_range(low);

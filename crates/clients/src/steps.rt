@@ -2,10 +2,10 @@
 ghost use Rattle.std.specs.Prelude.{◌≡◌, ℕ, ◌+◌, ◌-◌, ◌*◌, ◌/◌, ◌%◌, ◌^◌, ◌<◌, ◌≤◌, nat_abs, ◌-ℤ◌, false, ◌⊎◌};
 ghost use Rattle.lifting.specs.Program.{at};
 ghost use Rattle.picture.specs.Planes.{planes};
-ghost use Rattle.transform.specs.Transform.{inverse as samplesOf, forward as planesOf};
-ghost use Rattle.quantise.specs.Quantise.{quantisedPlanes};
-ghost use Rattle.restore.specs.Restore.{restoredPlanes};
-ghost use Rattle.tries.specs.Tries.{allBands, passes};
+ghost use Rattle.transform.specs.Transform.{inverse as samples_of, forward as planes_of};
+ghost use Rattle.quantise.specs.Quantise.{quantised_planes};
+ghost use Rattle.restore.specs.Restore.{restored_planes};
+ghost use Rattle.tries.specs.Tries.{all_bands, passes};
 ghost use Rattle.step_sizes.specs.Steps.{step_of};
 ghost use Rattle.clients.specs.Right.{Right, Indices, Room, count};
 ghost use Rattle.clients.specs.Faults.{QuantiseFaults, RestoreFaults, FindFaults};
@@ -41,7 +41,7 @@ pub fn client_quantise(
     ensures number { QuantiseFaults mode size steps (planes dc.now low.now high.now)
         (planes dc_levels.old low_levels.old high_levels.old) result }
     ensures done { result ≡ 0 → (planes dc_levels.new low_levels.new high_levels.new) ≡
-        quantisedPlanes steps (planes dc.now low.now high.now) }
+        quantised_planes steps (planes dc.now low.now high.now) }
     ensures refused { (result ≡ 0 → ⊥) → (planes dc_levels.new low_levels.new high_levels.new) ≡
         (planes dc_levels.old low_levels.old high_levels.old) }
 {
@@ -73,7 +73,7 @@ pub fn client_restore(
     ensures number { RestoreFaults mode size steps (planes dc_levels.now low_levels.now high_levels.now)
         (planes dc.old low.old high.old) result }
     ensures done { result ≡ 0 → (planes dc.new low.new high.new) ≡
-        restoredPlanes steps (planes dc_levels.now low_levels.now high_levels.now) }
+        restored_planes steps (planes dc_levels.now low_levels.now high_levels.now) }
     ensures refused { (result ≡ 0 → ⊥) → (planes dc.new low.new high.new) ≡
         (planes dc.old low.old high.old) }
 {
@@ -151,8 +151,8 @@ pub fn client_find_step(
 ) -> Found
     ensures number { FindFaults mode size samples.now second.old (planes dc.old low.old high.old) result.number }
     ensures planes { result.number ≡ 0 → planes dc.new low.new high.new ≡
-        restoredPlanes (allBands result.index) (quantisedPlanes (allBands result.index) (planesOf mode size samples.now)) }
-    ensures samples { result.number ≡ 0 → second.new ≡ samplesOf mode size (planes dc.new low.new high.new) }
+        restored_planes (all_bands result.index) (quantised_planes (all_bands result.index) (planes_of mode size samples.now)) }
+    ensures samples { result.number ≡ 0 → second.new ≡ samples_of mode size (planes dc.new low.new high.new) }
     ensures index { result.number ≡ 0 → (result.index ≡ 0) ⊎ ((2 ≤ result.index) × (result.index ≤ 255)) }
     ensures none { result.number ≡ 0 → result.index ≡ 0 → (k : ℕ) → 2 ≤ k → k ≤ 255 → passes mode size samples.now tolerance k ≡ false }
     ensures refused { (result.number ≡ 0 → ⊥) → (result.index ≡ 0) × (second.new ≡ second.old)

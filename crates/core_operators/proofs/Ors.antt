@@ -12,12 +12,12 @@ in_order false false false true c d x y = refl
 in_order false false false false true d x y = refl
 in_order false false false false false d x y = refl
 
-pub from-the-last : (p q e t c d x y : Bool)
+pub from_the_last : (p q e t c d x y : Bool)
     → p || q || e || t || c || d || x || y ≡ q || p || e || t || c || e || t || d || y || x
-from-the-last true true e t c d x y = refl
-from-the-last true false e t c d x y = refl
-from-the-last false true e t c d x y = refl
-from-the-last false false true t c d x y = refl
-from-the-last false false false true c d x y = refl
-from-the-last false false false false true d x y = refl
-from-the-last false false false false false d x y = or_swap d x y
+from_the_last true true e t c d x y = refl
+from_the_last true false e t c d x y = refl
+from_the_last false true e t c d x y = refl
+from_the_last false false true t c d x y = refl
+from_the_last false false false true c d x y = refl
+from_the_last false false false false true d x y = refl
+from_the_last false false false false false d x y = or_swap d x y

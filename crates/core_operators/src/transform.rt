@@ -2,10 +2,10 @@
 // four numbers it says, where `tell` asks, whether a reduction changed a number. The plain form is the told one with nothing asked.
 ghost use Rattle.std.specs.Prelude.{◌≡◌, ◌&&◌};
 ghost use Rattle.lifting.specs.Program.{run, undo};
-ghost use Rattle.lifting.specs.Wraps.{wraps, undoWraps};
-ghost use Rattle.figures.specs.Figures.{hadamard as hadamardLines, odd as oddLines, oddOdd as oddOddLines};
+ghost use Rattle.lifting.specs.Wraps.{wraps, undo_wraps};
+ghost use Rattle.figures.specs.Figures.{hadamard as hadamardLines, odd as oddLines, odd_odd as oddOddLines};
 ghost use Rattle.figures.specs.Block.{list};
-ghost use Rattle.figures.specs.Pieces.{oddOddRounded};
+ghost use Rattle.figures.specs.Pieces.{odd_odd_rounded};
 
 use crate::steps::{rounded_told, scaled_told};
 use figures::{Four, ToldFour};
@@ -17,7 +17,7 @@ pub fn hadamard_told(tell: bool, v: Four, r: i32) -> ToldFour
     ensures done { list result.four ≡ run (hadamardLines r) (list v) }
     ensures undone { list result.four ≡ undo (hadamardLines r) (list v) }
     ensures told { result.wrapped ≡ tell && wraps (hadamardLines r) (list v) }
-    ensures untold { result.wrapped ≡ tell && undoWraps (hadamardLines r) (list v) }
+    ensures untold { result.wrapped ≡ tell && undo_wraps (hadamardLines r) (list v) }
 {
     let a = v.a;
     let b = v.b;
@@ -124,7 +124,7 @@ pub fn odd(v: Four) -> Four
 // Figure 4.5 undone
 pub fn undo_odd_told(tell: bool, v: Four) -> ToldFour
     ensures done { list result.four ≡ undo oddLines (list v) }
-    ensures told { result.wrapped ≡ tell && undoWraps oddLines (list v) }
+    ensures told { result.wrapped ≡ tell && undo_wraps oddLines (list v) }
 {
     let a = v.a;
     let b = v.b;
@@ -187,8 +187,8 @@ pub fn undo_odd(v: Four) -> Four
 
 // The lines that Figures 4.6 and 4.12 share, with their two roundings
 pub fn odd_odd_rounded_told(tell: bool, v: Four, k: i32, l: i32) -> ToldFour
-    ensures done { list result.four ≡ run (oddOddRounded k l) (list v) }
-    ensures told { result.wrapped ≡ tell && wraps (oddOddRounded k l) (list v) }
+    ensures done { list result.four ≡ run (odd_odd_rounded k l) (list v) }
+    ensures told { result.wrapped ≡ tell && wraps (odd_odd_rounded k l) (list v) }
 {
     let a = v.a;
     let b = v.b;
@@ -237,8 +237,8 @@ pub fn odd_odd_rounded_told(tell: bool, v: Four, k: i32, l: i32) -> ToldFour
 
 // The same undone
 pub fn undo_odd_odd_rounded_told(tell: bool, v: Four, k: i32, l: i32) -> ToldFour
-    ensures done { list result.four ≡ undo (oddOddRounded k l) (list v) }
-    ensures told { result.wrapped ≡ tell && undoWraps (oddOddRounded k l) (list v) }
+    ensures done { list result.four ≡ undo (odd_odd_rounded k l) (list v) }
+    ensures told { result.wrapped ≡ tell && undo_wraps (odd_odd_rounded k l) (list v) }
 {
     let a = v.a;
     let b = v.b;
@@ -315,7 +315,7 @@ pub fn odd_odd(v: Four) -> Four
 // Figure 4.6 undone
 pub fn undo_odd_odd_told(tell: bool, v: Four) -> ToldFour
     ensures done { list result.four ≡ undo oddOddLines (list v) }
-    ensures told { result.wrapped ≡ tell && undoWraps oddOddLines (list v) }
+    ensures told { result.wrapped ≡ tell && undo_wraps oddOddLines (list v) }
 {
     let c = negate_told(tell, v.c);
     let b = negate_told(tell, v.b);

@@ -4,60 +4,60 @@ use mathlib.Core.Bool.{Bool, true, ◌||◌}
 use mathlib.Core.List.{List}
 use lib.IntN.{ℤ, pos}
 use Rattle.lifting.specs.Program.{run, undo, get, put}
-use Rattle.lifting.specs.Wraps.{wraps, undoWraps}
-use Rattle.figures.specs.Figures.{hadamard, odd, oddOdd, coreStages}
+use Rattle.lifting.specs.Wraps.{wraps, undo_wraps}
+use Rattle.figures.specs.Figures.{hadamard, odd, odd_odd, core_stages}
 use Rattle.figures.specs.Block.{list}
-use Rattle.figures.specs.Pieces.{quarterStage, coreMirroredStage}
-use Rattle.lifting.proofs.Compose.{run-then, undo-then}
+use Rattle.figures.specs.Pieces.{quarter_stage, core_mirrored_stage}
+use Rattle.lifting.proofs.Compose.{run_then, undo_then}
 use Rattle.lifting.proofs.Tests.{or_swap}
-use Rattle.lifting.proofs.NoWrap.{wraps-then, undo-wraps-then}
-use Rattle.lifting.proofs.Traces.{◌▸◌, at-end, ran, ◌◂◌, at-start, undone}
-use Rattle.figures.proofs.Figures.{core-stages}
+use Rattle.lifting.proofs.NoWrap.{wraps_then, undo_wraps_then}
+use Rattle.lifting.proofs.Traces.{◌▸◌, at-end, ran, ◌◂◌, at_start, undone}
+use Rattle.figures.proofs.Figures.{core_stages_lem}
 use Rattle.blocks.specs.declared.Quads.{Quads}
-use Rattle.blocks.specs.Quads.{quartered, mirrored, OnFours, OnEach, onSome, onAny}
+use Rattle.blocks.specs.Quads.{quartered, mirrored, OnFours, OnEach, on_some, on_any}
 use Rattle.blocks.proofs.Blocks.{some_back}
 
-pub quarter-run : (v w : Quads) → OnFours (run (hadamard (pos 1))) (run odd) (run odd) (run oddOdd) v w
-    → (quartered w ≡ run quarterStage (quartered v)) × (onSome (wraps (hadamard (pos 1))) (wraps odd) (wraps odd) (wraps oddOdd) v ≡ wraps quarterStage (quartered v))
-unfolding get put quartered quarterStage
-quarter-run v w e = ran true quarterStage _ refl ((e.p, refl) ▸ (e.q, refl) ▸ (e.r, refl) ▸ (e.s, refl) ▸ at-end)
+pub quarter-run : (v w : Quads) → OnFours (run (hadamard (pos 1))) (run odd) (run odd) (run odd_odd) v w
+    → (quartered w ≡ run quarter_stage (quartered v)) × (on_some (wraps (hadamard (pos 1))) (wraps odd) (wraps odd) (wraps odd_odd) v ≡ wraps quarter_stage (quartered v))
+unfolding get put quartered quarter_stage
+quarter-run v w e = ran true quarter_stage _ refl ((e.p, refl) ▸ (e.q, refl) ▸ (e.r, refl) ▸ (e.s, refl) ▸ at-end)
 
-pub quarter-undo : (v w : Quads) → OnFours (undo (hadamard (pos 1))) (undo odd) (undo odd) (undo oddOdd) v w
-    → (quartered w ≡ undo quarterStage (quartered v)) × (onSome (undoWraps (hadamard (pos 1))) (undoWraps odd) (undoWraps odd) (undoWraps oddOdd) v ≡ undoWraps quarterStage (quartered v))
-unfolding get put quartered quarterStage
+pub quarter-undo : (v w : Quads) → OnFours (undo (hadamard (pos 1))) (undo odd) (undo odd) (undo odd_odd) v w
+    → (quartered w ≡ undo quarter_stage (quartered v)) × (on_some (undo_wraps (hadamard (pos 1))) (undo_wraps odd) (undo_wraps odd) (undo_wraps odd_odd) v ≡ undo_wraps quarter_stage (quartered v))
+unfolding get put quartered quarter_stage
 quarter-undo v w e =
-    let u = undone true quarterStage _ refl (at-start ◂ (e.s, refl) ◂ (e.r, refl) ◂ (e.q, refl) ◂ (e.p, refl)) in
-    (u.0, some_back (undoWraps (hadamard (pos 1))) (undoWraps odd) (undoWraps odd) (undoWraps oddOdd) v ∙ u.1)
+    let u = undone true quarter_stage _ refl (at_start ◂ (e.s, refl) ◂ (e.r, refl) ◂ (e.q, refl) ◂ (e.p, refl)) in
+    (u.0, some_back (undo_wraps (hadamard (pos 1))) (undo_wraps odd) (undo_wraps odd) (undo_wraps odd_odd) v ∙ u.1)
 
 -- the uses in the order of the figure's second stage
-turned : (f : List ℤ → Bool) (v : Quads) → onAny f v ≡ f (list v.p) || f (list v.s) || f (list v.q) || f (list v.r)
+turned : (f : List ℤ → Bool) (v : Quads) → on_any f v ≡ f (list v.p) || f (list v.s) || f (list v.q) || f (list v.r)
 turned f v = or_swap (f (list v.p) || f (list v.q)) (f (list v.r)) (f (list v.s)) ∙ ap (λ x. x || f (list v.r)) (or_swap (f (list v.p)) (f (list v.q)) (f (list v.s)))
 
-turned-back : (f : List ℤ → Bool) (v : Quads) → onAny f v ≡ f (list v.r) || f (list v.q) || f (list v.s) || f (list v.p)
-turned-back f v = turned f v ∙ some_back f f f f (record { p = v.p; q = v.s; r = v.q; s = v.r })
+turned_back : (f : List ℤ → Bool) (v : Quads) → on_any f v ≡ f (list v.r) || f (list v.q) || f (list v.s) || f (list v.p)
+turned_back f v = turned f v ∙ some_back f f f f (record { p = v.p; q = v.s; r = v.q; s = v.r })
 
 pub mirrored-run : (v w : Quads) → OnEach (run (hadamard (pos 0))) v w
-    → (mirrored w ≡ run coreMirroredStage (mirrored v)) × (onAny (wraps (hadamard (pos 0))) v ≡ wraps coreMirroredStage (mirrored v))
-unfolding get put mirrored coreMirroredStage
+    → (mirrored w ≡ run core_mirrored_stage (mirrored v)) × (on_any (wraps (hadamard (pos 0))) v ≡ wraps core_mirrored_stage (mirrored v))
+unfolding get put mirrored core_mirrored_stage
 mirrored-run v w e =
-    let u = ran true coreMirroredStage _ refl ((e.p, refl) ▸ (e.s, refl) ▸ (e.q, refl) ▸ (e.r, refl) ▸ at-end) in
+    let u = ran true core_mirrored_stage _ refl ((e.p, refl) ▸ (e.s, refl) ▸ (e.q, refl) ▸ (e.r, refl) ▸ at-end) in
     (u.0, turned (wraps (hadamard (pos 0))) v ∙ u.1)
 
 pub mirrored-undo : (v w : Quads) → OnEach (undo (hadamard (pos 0))) v w
-    → (mirrored w ≡ undo coreMirroredStage (mirrored v)) × (onAny (undoWraps (hadamard (pos 0))) v ≡ undoWraps coreMirroredStage (mirrored v))
-unfolding get put mirrored coreMirroredStage
+    → (mirrored w ≡ undo core_mirrored_stage (mirrored v)) × (on_any (undo_wraps (hadamard (pos 0))) v ≡ undo_wraps core_mirrored_stage (mirrored v))
+unfolding get put mirrored core_mirrored_stage
 mirrored-undo v w e =
-    let u = undone true coreMirroredStage _ refl (at-start ◂ (e.r, refl) ◂ (e.q, refl) ◂ (e.s, refl) ◂ (e.p, refl)) in
-    (u.0, turned-back (undoWraps (hadamard (pos 0))) v ∙ u.1)
+    let u = undone true core_mirrored_stage _ refl (at_start ◂ (e.r, refl) ◂ (e.q, refl) ◂ (e.s, refl) ◂ (e.p, refl)) in
+    (u.0, turned_back (undo_wraps (hadamard (pos 0))) v ∙ u.1)
 
-pub stages-run : (v : List ℤ) → run coreMirroredStage (run quarterStage v) ≡ run coreStages v
-stages-run v = sym (run-then quarterStage coreMirroredStage v) ∙ ap (λ p. run p v) core-stages
+pub stages_run : (v : List ℤ) → run core_mirrored_stage (run quarter_stage v) ≡ run core_stages v
+stages_run v = sym (run_then quarter_stage core_mirrored_stage v) ∙ ap (λ p. run p v) core_stages_lem
 
-pub stages-undo : (v : List ℤ) → undo quarterStage (undo coreMirroredStage v) ≡ undo coreStages v
-stages-undo v = sym (undo-then quarterStage coreMirroredStage v) ∙ ap (λ p. undo p v) core-stages
+pub stages_undo : (v : List ℤ) → undo quarter_stage (undo core_mirrored_stage v) ≡ undo core_stages v
+stages_undo v = sym (undo_then quarter_stage core_mirrored_stage v) ∙ ap (λ p. undo p v) core_stages_lem
 
-pub stages-wrap : (v : List ℤ) → wraps quarterStage v || wraps coreMirroredStage (run quarterStage v) ≡ wraps coreStages v
-stages-wrap v = sym (wraps-then quarterStage coreMirroredStage v) ∙ ap (λ p. wraps p v) core-stages
+pub stages_wrap : (v : List ℤ) → wraps quarter_stage v || wraps core_mirrored_stage (run quarter_stage v) ≡ wraps core_stages v
+stages_wrap v = sym (wraps_then quarter_stage core_mirrored_stage v) ∙ ap (λ p. wraps p v) core_stages_lem
 
-pub undo-stages-wrap : (v : List ℤ) → undoWraps coreMirroredStage v || undoWraps quarterStage (undo coreMirroredStage v) ≡ undoWraps coreStages v
-undo-stages-wrap v = sym (undo-wraps-then quarterStage coreMirroredStage v) ∙ ap (λ p. undoWraps p v) core-stages
+pub undo_stages_wrap : (v : List ℤ) → undo_wraps core_mirrored_stage v || undo_wraps quarter_stage (undo core_mirrored_stage v) ≡ undo_wraps core_stages v
+undo_stages_wrap v = sym (undo_wraps_then quarter_stage core_mirrored_stage v) ∙ ap (λ p. undo_wraps p v) core_stages_lem

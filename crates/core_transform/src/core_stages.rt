@@ -1,9 +1,9 @@
 // The first stage of Figure 4.8, which takes the quarters of a block: places 0 1 4 5, 2 3 6 7, 8 12 9 13 and 10 11 14 15.
 ghost use Rattle.std.specs.Prelude.{◌≡◌, ◌&&◌, pos};
 ghost use Rattle.lifting.specs.Program.{run, undo};
-ghost use Rattle.lifting.specs.Wraps.{wraps, undoWraps};
-ghost use Rattle.figures.specs.Figures.{hadamard as hadamardLines, odd as oddLines, oddOdd as oddOddLines};
-ghost use Rattle.blocks.specs.Quads.{OnFours, onSome};
+ghost use Rattle.lifting.specs.Wraps.{wraps, undo_wraps};
+ghost use Rattle.figures.specs.Figures.{hadamard as hadamardLines, odd as oddLines, odd_odd as oddOddLines};
+ghost use Rattle.blocks.specs.Quads.{OnFours, on_some};
 
 use blocks::{Quads, ToldQuads};
 use core_operators::transform::{
@@ -12,7 +12,7 @@ use core_operators::transform::{
 
 pub fn quarter_stage_told(tell: bool, v: Quads) -> ToldQuads
     ensures done { OnFours (run (hadamardLines (pos 1))) (run oddLines) (run oddLines) (run oddOddLines) v result.quads }
-    ensures told { result.wrapped ≡ tell && onSome (wraps (hadamardLines (pos 1))) (wraps oddLines) (wraps oddLines) (wraps oddOddLines) v }
+    ensures told { result.wrapped ≡ tell && on_some (wraps (hadamardLines (pos 1))) (wraps oddLines) (wraps oddLines) (wraps oddOddLines) v }
 {
     let p_told = hadamard_told(tell, v.p, 1);
     let q_told = odd_told(tell, v.q);
@@ -37,7 +37,7 @@ pub fn quarter_stage(v: Quads) -> Quads
 
 pub fn undo_quarter_stage_told(tell: bool, v: Quads) -> ToldQuads
     ensures done { OnFours (undo (hadamardLines (pos 1))) (undo oddLines) (undo oddLines) (undo oddOddLines) v result.quads }
-    ensures told { result.wrapped ≡ tell && onSome (undoWraps (hadamardLines (pos 1))) (undoWraps oddLines) (undoWraps oddLines) (undoWraps oddOddLines) v }
+    ensures told { result.wrapped ≡ tell && on_some (undo_wraps (hadamardLines (pos 1))) (undo_wraps oddLines) (undo_wraps oddLines) (undo_wraps oddOddLines) v }
 {
     let p_told = hadamard_told(tell, v.p, 1);
     let q_told = undo_odd_told(tell, v.q);

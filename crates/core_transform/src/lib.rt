@@ -4,10 +4,10 @@ mod tables; // tables.rt: the reorder that begins Figure 4.8, and its undoing
 
 ghost use Rattle.std.specs.Prelude.{◌≡◌};
 ghost use Rattle.lifting.specs.Program.{run, undo, get};
-ghost use Rattle.lifting.specs.Wraps.{wraps, undoWraps};
+ghost use Rattle.lifting.specs.Wraps.{wraps, undo_wraps};
 ghost use Rattle.figures.specs.Block.{flat};
-ghost use Rattle.figures.specs.Figures.{core as coreLines, forwardReorder, inverseReorder};
-ghost use Rattle.figures.specs.Pieces.{quarterStage, coreMirroredStage};
+ghost use Rattle.figures.specs.Figures.{core as coreLines, forward_reorder, inverse_reorder};
+ghost use Rattle.figures.specs.Pieces.{quarter_stage, core_mirrored_stage};
 
 use crate::core_stages::{
     quarter_stage, quarter_stage_told, undo_quarter_stage, undo_quarter_stage_told,
@@ -18,7 +18,7 @@ use blocks::{mirrored, pick, quartered, quarters, row, split};
 
 // A block reordered as Figure 4.8 begins: place i takes the coefficient at the forward table's entry i.
 fn reorder(b: [[i32; 4]; 4]) -> [[i32; 4]; 4]
-    ensures { flat result ≡ get forwardReorder (flat b) }
+    ensures { flat result ≡ get forward_reorder (flat b) }
 {
     let t = FORWARD_REORDER;
     let p = pick(b, t[0], t[1], t[2], t[3]);
@@ -30,27 +30,27 @@ fn reorder(b: [[i32; 4]; 4]) -> [[i32; 4]; 4]
 
 // The stages take and give blocks; inside, a block is four fours.
 fn first_stage(b: [[i32; 4]; 4]) -> [[i32; 4]; 4]
-    ensures { flat result ≡ run quarterStage (flat b) }
+    ensures { flat result ≡ run quarter_stage (flat b) }
 {
     quartered(quarter_stage(quarters(b)))
 }
 
 fn undo_first_stage(b: [[i32; 4]; 4]) -> [[i32; 4]; 4]
-    ensures { flat result ≡ undo quarterStage (flat b) }
+    ensures { flat result ≡ undo quarter_stage (flat b) }
 {
     quartered(undo_quarter_stage(quarters(b)))
 }
 
 fn second_stage(b: [[i32; 4]; 4]) -> [[i32; 4]; 4]
-    ensures done { flat result ≡ run coreMirroredStage (flat b) }
-    ensures undone { flat result ≡ undo coreMirroredStage (flat b) }
+    ensures done { flat result ≡ run core_mirrored_stage (flat b) }
+    ensures undone { flat result ≡ undo core_mirrored_stage (flat b) }
 {
     mirrored(hadamards(split(b)))
 }
 
 // The reorder undone: place i takes the coefficient at the inverse table's entry i.
 fn undo_reorder(b: [[i32; 4]; 4]) -> [[i32; 4]; 4]
-    ensures { flat result ≡ get inverseReorder (flat b) }
+    ensures { flat result ≡ get inverse_reorder (flat b) }
 {
     let t = INVERSE_REORDER;
     let p = pick(b, t[0], t[1], t[2], t[3]);
@@ -85,7 +85,7 @@ pub fn core_wraps(b: [[i32; 4]; 4]) -> bool
 
 // And in Figure 4.8 undone
 pub fn undo_core_wraps(b: [[i32; 4]; 4]) -> bool
-    ensures { result ≡ undoWraps coreLines (flat b) }
+    ensures { result ≡ undo_wraps coreLines (flat b) }
 {
     let first = hadamards_told(true, split(b));
     let last = undo_quarter_stage_told(true, quarters(mirrored(first.quads)));

@@ -11,42 +11,42 @@ use Rattle.lifting.specs.Tests.{any}
 use Rattle.lifting.specs.Wraps.{wraps}
 use Rattle.lifting.proofs.Tests.{any_same}
 use Rattle.figures.specs.Figures.{core}
-use Rattle.figures.proofs.Growth.{core-grows}
+use Rattle.figures.proofs.Growth.{core_grows}
 use Rattle.large_numbers.specs.Small.{AtMost}
 use Rattle.transform.specs.Level.{cores}
 use Rattle.picture.specs.declared.size.Size.{Size}
 use Rattle.picture.specs.Sizes.{Sized, macroblocks}
 use Rattle.picture.specs.Table.{table}
-use Rattle.transform.specs.Grids.{coefficients, blockOrder, firstGrid, secondGrid}
-use Rattle.transform.proofs.Geometry.{order-low, block-of-order}
+use Rattle.transform.specs.Grids.{coefficients, block_order, first_grid, second_grid}
+use Rattle.transform.proofs.Geometry.{order_low, block_of_order}
 use Rattle.transform.proofs.Grid.{at_first}
 use Rattle.picture.proofs.Table.{length-table}
 use Rattle.transform.proofs.NoWrap.{within-table}
 use Rattle.transform.proofs.Told.{cores-of-grid}
 
 -- a block by its coefficient 0 and by the plane and the place of the others
-abbrev pub blockWraps : ℤ → List ℤ → ℕ → Bool
-blockWraps x rest from = wraps core (table 16 (coefficients x (λ k. at rest (from + k))))
+abbrev pub block_wraps : ℤ → List ℤ → ℕ → Bool
+block_wraps x rest from = wraps core (table 16 (coefficients x (λ k. at rest (from + k))))
 
 -- the coefficient 0 of block t, where those of a macroblock's sixteen blocks are its DC and low-pass numbers
-abbrev pub heldZero : List ℤ → List ℤ → ℕ → ℤ
-heldZero dc low t = coefficients (at dc (t / 16)) (λ k. at low (15 * (t / 16) + k)) (t % 16)
+abbrev pub held_zero : List ℤ → List ℤ → ℕ → ℤ
+held_zero dc low t = coefficients (at dc (t / 16)) (λ k. at low (15 * (t / 16) + k)) (t % 16)
 
 -- ---- numbers of 64 bits
 
-pub order-fits : {p b : ℕ} → 0 < p → p ≤ 525 → b < 16 * (p * 413) → blockOrder p b < 3469200
-order-fits {p} {b} wide h l = omega (arith, order-low wide 413 b l)
+pub order_fits : {p b : ℕ} → 0 < p → p ≤ 525 → b < 16 * (p * 413) → block_order p b < 3469200
+order_fits {p} {b} wide h l = omega (arith, order_low wide 413 b l)
 
 -- a block of a picture, and the place of its numbers in the high-pass plane
-pub block_in : {size : Size} → Sized size → {b : ℕ} → b < 16 * macroblocks size → (b < 16 * (size.width.0 * 413)) × (blockOrder size.width.0 b < 16 * macroblocks size)
+pub block_in : {size : Size} → Sized size → {b : ℕ} → b < 16 * macroblocks size → (b < 16 * (size.width.0 * 413)) × (block_order size.width.0 b < 16 * macroblocks size)
 block_in {size} s {b} h =
     let m : size.width.0 * size.height.0 ≤ size.width.0 * 413 = mul-le-mul (le_refl _) s.most-tall in
-    (omega (arith, m), order-low s.wide size.height.0 b h)
+    (omega (arith, m), order_low s.wide size.height.0 b h)
 
 -- ---- a core of numbers of at most 2^27
 
-pub block-calm : (x : ℤ) (rest : List ℤ) (from : ℕ) → nat_abs x ≤ 134217728 → AtMost 134217728 rest from (from + 15) → blockWraps x rest from ≡ false
-block-calm x rest from h l = (core-grows 134217728 (omega arith)).calm (length-table 16 _) (within-table 16 _ number)
+pub block-calm : (x : ℤ) (rest : List ℤ) (from : ℕ) → nat_abs x ≤ 134217728 → AtMost 134217728 rest from (from + 15) → block_wraps x rest from ≡ false
+block-calm x rest from h l = (core_grows 134217728 (omega arith)).calm (length-table 16 _) (within-table 16 _ number)
   where
     number : (k : ℕ) → k < 16 → nat_abs (coefficients x (λ i. at rest (from + i)) k) ≤ 134217728
     number zero m = h
@@ -55,26 +55,26 @@ block-calm x rest from h l = (core-grows 134217728 (omega arith)).calm (length-t
 -- ---- the cores of the two levels
 
 module _ {W : ℕ} (wide : 0 < W) (H : ℕ) where
-  pub first-told : (dc low : List ℤ) → wraps (cores W H) (firstGrid W H dc low) ≡ any (W * H) (λ m. blockWraps (at dc m) low (15 * m))
-  unfolding firstGrid
+  pub first-told : (dc low : List ℤ) → wraps (cores W H) (first_grid W H dc low) ≡ any (W * H) (λ m. block_wraps (at dc m) low (15 * m))
+  unfolding first_grid
   first-told dc low = cores-of-grid W H _ wide
 
-  pub second-told : (view high : List ℤ) → wraps (cores (4 * W) (4 * H)) (secondGrid W H view high) ≡ any (16 * (W * H)) (λ b. blockWraps (at view b) high (15 * blockOrder W b))
-  unfolding secondGrid
+  pub second-told : (view high : List ℤ) → wraps (cores (4 * W) (4 * H)) (second_grid W H view high) ≡ any (16 * (W * H)) (λ b. block_wraps (at view b) high (15 * block_order W b))
+  unfolding second_grid
   second-told view high =
       let l : 0 < 4 * W = omega arith in
       let e : 4 * W * (4 * H) ≡ 16 * (W * H) = omega arith in
-      cores-of-grid (4 * W) (4 * H) _ l ∙ ap (λ (n : ℕ). any n (λ b. blockWraps (at view b) high (15 * blockOrder W b))) e
+      cores-of-grid (4 * W) (4 * H) _ l ∙ ap (λ (n : ℕ). any n (λ b. block_wraps (at view b) high (15 * block_order W b))) e
 
   -- the same where the numbers of level one lie in DC and low-pass
-  pub held-told : (dc low high : List ℤ)
-      → wraps (cores (4 * W) (4 * H)) (secondGrid W H (firstGrid W H dc low) high) ≡ any (16 * (W * H)) (λ b. blockWraps (heldZero dc low (blockOrder W b)) high (15 * blockOrder W b))
-  held-told dc low high =
-      second-told (firstGrid W H dc low) high
-      ∙ any_same (16 * (W * H)) _ _ (λ b h. ap (λ x. blockWraps x high (15 * blockOrder W b)) (sym (held-zero b h)))
+  pub held_told : (dc low high : List ℤ)
+      → wraps (cores (4 * W) (4 * H)) (second_grid W H (first_grid W H dc low) high) ≡ any (16 * (W * H)) (λ b. block_wraps (held_zero dc low (block_order W b)) high (15 * block_order W b))
+  held_told dc low high =
+      second-told (first_grid W H dc low) high
+      ∙ any_same (16 * (W * H)) _ _ (λ b h. ap (λ x. block_wraps x high (15 * block_order W b)) (sym (held-zero b h)))
     where
-      held-zero : (b : ℕ) → b < 16 * (W * H) → heldZero dc low (blockOrder W b) ≡ at (firstGrid W H dc low) b
+      held-zero : (b : ℕ) → b < 16 * (W * H) → held_zero dc low (block_order W b) ≡ at (first_grid W H dc low) b
       held-zero b h =
-          let t = blockOrder W b in
-          let l = order-low wide H b h in
-          sym (at_first wide H dc low (t / 16) (t % 16) (omega arith) (omega arith)) ∙ ap (at (firstGrid W H dc low)) (block-of-order wide b)
+          let t = block_order W b in
+          let l = order_low wide H b h in
+          sym (at_first wide H dc low (t / 16) (t % 16) (omega arith) (omega arith)) ∙ ap (at (first_grid W H dc low)) (block_of_order wide b)

@@ -7,7 +7,7 @@ ghost use Rattle.figures.specs.Figures.{core};
 ghost use Rattle.transform.specs.Level.{cores};
 ghost use Rattle.picture.specs.Planes.{Lengths, planes};
 ghost use Rattle.picture.specs.Table.{table};
-ghost use Rattle.transform.specs.Grids.{coefficients, blockOrder, firstGrid, secondGrid};
+ghost use Rattle.transform.specs.Grids.{coefficients, block_order, first_grid, second_grid};
 ghost use Rattle.picture.specs.Sizes.{macroblocks, Sized};
 
 use core_transform::core_wraps;
@@ -44,7 +44,7 @@ fn block_wraps(zero: i32, rest: &[i32], from: usize) -> bool
 pub fn first_cores_wrap(size: Size, dc: &[i32], low: &[i32]) -> bool
     requires sized { Sized size }
     requires dc_len { (length dc.now ≡ macroblocks size) × (length low.now ≡ 15 * macroblocks size) }
-    ensures { result ≡ wraps (cores size.width.0 size.height.0) (firstGrid size.width.0 size.height.0 dc.now low.now) }
+    ensures { result ≡ wraps (cores size.width.0 size.height.0) (first_grid size.width.0 size.height.0 dc.now low.now) }
 {
     for m in 0..dc.len() {
         if block_wraps(dc[m], low, 15 * m) {
@@ -57,7 +57,7 @@ pub fn first_cores_wrap(size: Size, dc: &[i32], low: &[i32]) -> bool
 // The place in the high-pass plane of block b, which is counted in raster order over a picture p macroblocks wide.
 fn block_order(p: usize, b: usize) -> usize
     requires { (0 < p) × (p ≤ 525) × (b < 16 * (p * 413)) }
-    ensures { result ≡ blockOrder p b }
+    ensures { result ≡ block_order p b }
 {
     let w = 4 * p;
     let y = b / w;
@@ -69,7 +69,7 @@ fn block_order(p: usize, b: usize) -> usize
 pub fn second_cores_wrap(size: Size, view: &[i32], high: &[i32]) -> bool
     requires sized { Sized size }
     requires view_len { (length view.now ≡ 16 * macroblocks size) × (length high.now ≡ 240 * macroblocks size) }
-    ensures { result ≡ wraps (cores (4 * size.width.0) (4 * size.height.0)) (secondGrid size.width.0 size.height.0 view.now high.now) }
+    ensures { result ≡ wraps (cores (4 * size.width.0) (4 * size.height.0)) (second_grid size.width.0 size.height.0 view.now high.now) }
 {
     let p = size.width.0 as usize;
     for b in 0..view.len() {
@@ -99,7 +99,7 @@ pub fn plane_cores_wrap(size: Size, dc: &[i32], low: &[i32], high: &[i32]) -> bo
     requires sized { Sized size }
     requires lengths { Lengths (macroblocks size) (planes dc.now low.now high.now) }
     ensures { result ≡ wraps (cores (4 * size.width.0) (4 * size.height.0))
-        (secondGrid size.width.0 size.height.0 (firstGrid size.width.0 size.height.0 dc.now low.now) high.now) }
+        (second_grid size.width.0 size.height.0 (first_grid size.width.0 size.height.0 dc.now low.now) high.now) }
 {
     let p = size.width.0 as usize;
     for b in 0..16 * dc.len() {

@@ -3,9 +3,9 @@ use Rattle.std.specs.Prelude.{ℕ, ◌*◌, ◌≤◌, ◌<◌, ◌≡◌, Bool,
 use Rattle.lifting.specs.Program.{at}
 use Rattle.picture.specs.Planes.{Planes}
 use Rattle.transform.specs.Transform.{inverse, forward}
-use Rattle.quantise.specs.Quantise.{quantisedPlanes}
-use Rattle.restore.specs.Restore.{restoredPlanes}
-use Rattle.tries.specs.Tries.{passes, triedPlanes, triedSamples}
+use Rattle.quantise.specs.Quantise.{quantised_planes}
+use Rattle.restore.specs.Restore.{restored_planes}
+use Rattle.tries.specs.Tries.{passes, tried_planes, tried_samples}
 use Rattle.find_step.specs.FindStep.{Answer}
 use Rattle.corollaries.specs.Sizes.{of, EverySize, InRange, Numbers}
 
@@ -13,9 +13,9 @@ use Rattle.corollaries.specs.Sizes.{of, EverySize, InRange, Numbers}
 abbrev pub TryIsTheFourCalls : Type 0
 TryIsTheFourCalls =
     (mode W H : ℕ) (samples : List ℤ) (index : ℕ)
-    → (triedPlanes mode (of W H) samples index ≡
-    restoredPlanes (record { dc = index; low = index; high = index }) (quantisedPlanes (record { dc = index; low = index; high = index }) (forward mode (of W H) samples)))
-    × (triedSamples mode (of W H) samples index ≡ inverse mode (of W H) (triedPlanes mode (of W H) samples index))
+    → (tried_planes mode (of W H) samples index ≡
+    restored_planes (record { dc = index; low = index; high = index }) (quantised_planes (record { dc = index; low = index; high = index }) (forward mode (of W H) samples)))
+    × (tried_samples mode (of W H) samples index ≡ inverse mode (of W H) (tried_planes mode (of W H) samples index))
 
 -- every product of a try is in the range
 pub record ProductsFit (s : Planes) : Type 0 where
@@ -32,21 +32,21 @@ abbrev pub PassingMeans : Type 0
 PassingMeans =
     (mode W H : ℕ) (samples : List ℤ) (tolerance index : ℕ)
     → (passes mode (of W H) samples tolerance index ≡ true
-    → ProductsFit (triedPlanes mode (of W H) samples index) × SamplesNear (W * H) tolerance samples (triedSamples mode (of W H) samples index))
-    × (ProductsFit (triedPlanes mode (of W H) samples index) → SamplesNear (W * H) tolerance samples (triedSamples mode (of W H) samples index)
+    → ProductsFit (tried_planes mode (of W H) samples index) × SamplesNear (W * H) tolerance samples (tried_samples mode (of W H) samples index))
+    × (ProductsFit (tried_planes mode (of W H) samples index) → SamplesNear (W * H) tolerance samples (tried_samples mode (of W H) samples index)
     → passes mode (of W H) samples tolerance index ≡ true)
 
 -- index 0 passes, and gives the samples back
 abbrev pub ZeroPasses : Type 0
 ZeroPasses =
     EverySize (λ mode W H. (samples : List ℤ) → Numbers (256 * (W * H)) samples → (tolerance : ℕ)
-    → (passes mode (of W H) samples tolerance 0 ≡ true) × (triedSamples mode (of W H) samples 0 ≡ samples))
+    → (passes mode (of W H) samples tolerance 0 ≡ true) × (tried_samples mode (of W H) samples 0 ≡ samples))
 
 -- what is answered is within the tolerance
 abbrev pub AnswersKeepTheTolerance : Type 0
 AnswersKeepTheTolerance =
     EverySize (λ mode W H. (samples : List ℤ) → Numbers (256 * (W * H)) samples → (tolerance index : ℕ)
-    → Answer (passes mode (of W H) samples tolerance) index → SamplesNear (W * H) tolerance samples (triedSamples mode (of W H) samples index))
+    → Answer (passes mode (of W H) samples tolerance) index → SamplesNear (W * H) tolerance samples (tried_samples mode (of W H) samples index))
 
 -- the answers: each index from 2 to 255 that passes, and 0 where none of those does; nothing else
 abbrev pub TheAnswers : Type 0

@@ -19,4 +19,4 @@ InRange (negsuc n) = n ≤ 2147483647
 -- n numbers of 32 bits
 pub record Numbers (n : ℕ) (v : List ℤ) : Type 0 where
   pub count : length v ≡ n
-  pub in-range : (i : ℕ) → i < n → InRange (at v i)
+  pub in_range : (i : ℕ) → i < n → InRange (at v i)

@@ -1,7 +1,7 @@
 -- What quantising and restoring do to a number, at every index (02, a).
 use Rattle.std.specs.Prelude.{ℕ, suc, ◌+◌, ◌-◌, ◌*◌, ◌/◌, ◌≤◌, ◌≡◌, false, ℤ, pos, negsuc, neg_ℤ, nat_abs, ◌-ℤ◌, ◌*ℤ◌}
 use Rattle.step_sizes.specs.Steps.{step_of}
-use Rattle.step_sizes.specs.Levels.{quantised, restored, outOfRange}
+use Rattle.step_sizes.specs.Levels.{quantised, restored, is_out_of_range}
 use Rattle.corollaries.specs.Sizes.{InRange}
 
 -- the step doubles 16 indices on
@@ -33,4 +33,4 @@ StepOneKeeps =
 
 -- a product is told to be outside the range where it is
 abbrev pub OutOfRangeIsTold : Type 0
-OutOfRangeIsTold = (x : ℤ) → (outOfRange x ≡ false → InRange x) × (InRange x → outOfRange x ≡ false)
+OutOfRangeIsTold = (x : ℤ) → (is_out_of_range x ≡ false → InRange x) × (InRange x → is_out_of_range x ≡ false)

@@ -7,24 +7,24 @@ use native.Mathlib.Nat.{pow-suc}
 use native.Mathlib.Omega.{arith}
 use lib.ListN.{length, length-append}
 use borrow.Author.Tests.{lt-ltb, le-ltb}
-use Rattle.decimal.specs.Text.{digit, digitsIn, digits}
-use Rattle.decimal.proofs.Order.{lt-or-le}
+use Rattle.decimal.specs.Text.{digit, digits_in, digits}
+use Rattle.decimal.proofs.Order.{lt_or_le}
 
-few : (k n : ℕ) → n < 10 → digitsIn (suc k) n ≡ digit n ∷ []
-unfolding digitsIn
-few k n h = rw (lt-ltb n 10 h, digitsIn)
+few : (k n : ℕ) → n < 10 → digits_in (suc k) n ≡ digit n ∷ []
+unfolding digits_in
+few k n h = rw (lt-ltb n 10 h, digits_in)
 
-more : (k n : ℕ) → 10 ≤ n → digitsIn (suc k) n ≡ digitsIn k (n / 10) ++ (digit (n % 10) ∷ [])
-unfolding digitsIn
-more k n h = rw (le-ltb n 10 h, digitsIn)
+more : (k n : ℕ) → 10 ≤ n → digits_in (suc k) n ≡ digits_in k (n / 10) ++ (digit (n % 10) ∷ [])
+unfolding digits_in
+more k n h = rw (le-ltb n 10 h, digits_in)
 
-enough : (k m n : ℕ) → n < k → n < m → digitsIn k n ≡ digitsIn m n
+enough : (k m n : ℕ) → n < k → n < m → digits_in k n ≡ digits_in m n
 enough zero m n h j = absurd (omega arith)
 enough (suc k) zero n h j = absurd (omega arith)
 enough (suc k) (suc m) n h j =
     ⊎_elim (λ q. few k n q ∙ sym (few m n q))
     (λ q. more k n q ∙ ap (λ (l : List ℕ). l ++ (digit (n % 10) ∷ [])) (enough k m (n / 10) (omega arith) (omega arith)) ∙ sym (more m n q))
-    (lt-or-le n 10)
+    (lt_or_le n 10)
 
 -- a number below ten is its one digit
 pub digits-one : (n : ℕ) → n < 10 → digits n ≡ digit n ∷ []
@@ -49,4 +49,4 @@ digits-at-most zero n h = omega (arith, length-one n (omega arith))
 digits-at-most (suc k) n h =
     ⊎_elim (λ q. omega (arith, length-one n q))
     (λ q. omega (arith, length_more n q, digits-at-most k (n / 10) (omega (arith, pow-suc 10 (suc k)))))
-    (lt-or-le n 10)
+    (lt_or_le n 10)

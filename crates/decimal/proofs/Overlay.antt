@@ -34,13 +34,13 @@ over-over b at s t h =
     (ap (λ (l : List ℕ). (take at b ++ (s ++ t)) ++ l) (rest b at s t e))
 
 -- a text behind the text that is there
-pub then-text : (b o : List ℕ) {p : List ℕ} (at : ℕ) {e : ℕ} (s t : List ℕ) → at ≤ length b → o ≡ over b at s → e ≡ at + length s → p ≡ over o e t → p ≡ over b at (s ++ t)
-then-text b o at s t h q r w = w ∙ rw (q, r) (over-over b at s t h)
+pub then_text : (b o : List ℕ) {p : List ℕ} (at : ℕ) {e : ℕ} (s t : List ℕ) → at ≤ length b → o ≡ over b at s → e ≡ at + length s → p ≡ over o e t → p ≡ over b at (s ++ t)
+then_text b o at s t h q r w = w ∙ rw (q, r) (over-over b at s t h)
 
 -- a byte behind the text that is there
-pub then-byte : (b o : List ℕ) (at e v : ℕ) (s : List ℕ) → at + length s < length b → o ≡ over b at s → e ≡ at + length s → set o e v ≡ over b at (s ++ (v ∷ []))
-then-byte b o at e v s h q r =
-    then-text b o at s (v ∷ []) (omega arith) q r (over-set o e v (rw (q, r, length_over b at s (omega arith)) h))
+pub then_byte : (b o : List ℕ) (at e v : ℕ) (s : List ℕ) → at + length s < length b → o ≡ over b at s → e ≡ at + length s → set o e v ≡ over b at (s ++ (v ∷ []))
+then_byte b o at e v s h q r =
+    then_text b o at s (v ∷ []) (omega arith) q r (over-set o e v (rw (q, r, length_over b at s (omega arith)) h))
 
 -- a copy, byte by byte
 pub copy_more : (b d : List ℕ) (at : ℕ) (s : List ℕ) (i : ℕ) → at + length s ≤ length b → i < length s → d ≡ paste b at s i → set d (at + i) (get_or s i 0) ≡ paste b at s (i + 1)

@@ -7,7 +7,7 @@ use native.Mathlib.Omega.{arith}
 use lib.ListN.{length, get_or, drop, set, length-append}
 use lib.IntN.{ℤ, pos}
 use Rattle.decimal.specs.Text.{ascii, decimal, row, over}
-use Rattle.decimal.proofs.Overlay.{then-text, then-byte}
+use Rattle.decimal.proofs.Overlay.{then_text, then_byte}
 use Rattle.decimal.proofs.Rows.{row_on, row_last, row-none, row-over}
 
 -- of the row xs the first i numbers are written to the front of b, which is now o, up to `at`
@@ -36,7 +36,7 @@ module _ (xs : List ℤ) (b : List ℕ) (room : length (row xs) ≤ length b) {o
 
   module _ {p : List ℕ} {e : ℕ} (l : p ≡ over o at (decimal (get_or xs i (pos 0)))) (f : e ≡ at + length (decimal (get_or xs i (pos 0)))) where
     number : p ≡ over b 0 (s.text ++ decimal (get_or xs i (pos 0)))
-    number = then-text b o 0 s.text (decimal (get_or xs i (pos 0))) (omega arith) s.laid (omega (arith, s.size)) l
+    number = then_text b o 0 s.text (decimal (get_or xs i (pos 0))) (omega arith) s.laid (omega (arith, s.size)) l
 
     -- the last number
     pub last : i < length xs → length xs ≤ i + 1 → SoFar xs b p e (i + 1)
@@ -47,11 +47,11 @@ module _ (xs : List ℤ) (b : List ℕ) (room : length (row xs) ≤ length b) {o
     on h =
         let x = decimal (get_or xs i (pos 0)) in
         grow (x ++ ascii " ") (i + 1) (row_on xs i h)
-        (then-byte b p 0 e (code " ") (s.text ++ x) (simp length-append (omega (arith, left, s.size, row-over xs i (omega arith)))) number (simp length-append (omega (arith, s.size))) ∙ ap (over b 0) (append_assoc s.text x (ascii " ")))
+        (then_byte b p 0 e (code " ") (s.text ++ x) (simp length-append (omega (arith, left, s.size, row-over xs i (omega arith)))) number (simp length-append (omega (arith, s.size))) ∙ ap (over b 0) (append_assoc s.text x (ascii " ")))
         (simp length-append (omega arith))
 
   -- the newline
   pub whole : length xs ≤ i → set o at (code "\n") ≡ over b 0 (row xs)
   whole h =
       let n = row-none xs i h in
-      rw (← s.rest, n) (then-byte b o 0 at (code "\n") s.text (omega (arith, left, s.size, ap length n)) s.laid (omega (arith, s.size)))
+      rw (← s.rest, n) (then_byte b o 0 at (code "\n") s.text (omega (arith, left, s.size, ap length n)) s.laid (omega (arith, s.size)))

@@ -7,7 +7,7 @@ use native.Mathlib.Omega.{arith}
 use borrow.Author.Tests.{le-leb, lt-leb}
 use lib.ListN.{length}
 use Rattle.decimal.specs.Text.{over, written, count}
-use Rattle.decimal.proofs.Order.{lt-or-le}
+use Rattle.decimal.proofs.Order.{lt_or_le}
 
 pub written-fits : (t b : List ℕ) → length t ≤ length b → written t b ≡ over b 0 t
 unfolding written
@@ -27,7 +27,7 @@ module _ (t : List ℕ) (room : ℕ) where
   count_none h = rw (lt-leb (length t) room h)
 
   pub count-zero : 0 < length t → count t room ≡ 0 → room < length t
-  count-zero h z = ⊎_elim (λ q. q) (λ q. absurd (omega (arith, count_fits q))) (lt-or-le room (length t))
+  count-zero h z = ⊎_elim (λ q. q) (λ q. absurd (omega (arith, count_fits q))) (lt_or_le room (length t))
 
-  pub count-some : (count t room ≡ 0 → ⊥) → length t ≤ room
-  count-some f = ⊎_elim (λ q. absurd (f (count_none q))) (λ q. q) (lt-or-le room (length t))
+  pub count_some : (count t room ≡ 0 → ⊥) → length t ≤ room
+  count_some f = ⊎_elim (λ q. absurd (f (count_none q))) (λ q. q) (lt_or_le room (length t))

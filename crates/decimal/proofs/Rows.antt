@@ -34,7 +34,7 @@ after x (y ∷ ys) = simp length-append (omega arith)
 pub row-over : (xs : List ℤ) (i : ℕ) → i < length xs → length (decimal (get_or xs i (pos 0))) < length (row (drop i xs))
 row-over xs i h = rw (drop-cons xs i (pos 0) h) (after (get_or xs i (pos 0)) (drop (suc i) xs))
 
-pub row-some : (xs : List ℤ) → 0 < length (row xs)
+pub row_some : (xs : List ℤ) → 0 < length (row xs)
 unfolding row
-row-some [] = omega arith
-row-some (x ∷ xs) = omega (arith, after x xs)
+row_some [] = omega arith
+row_some (x ∷ xs) = omega (arith, after x xs)

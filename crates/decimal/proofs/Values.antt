@@ -4,7 +4,7 @@ use Prim.Native.String.{String}
 use mathlib.Core.Path.{◌≡◌, refl}
 use mathlib.Core.List.{List, [], ◌∷◌, map}
 use lib.IntN.{ℤ, pos, neg_ℤ}
-use Rattle.decimal.specs.Text.{ascii, digitsIn, digits, decimal, row, refusedLine}
+use Rattle.decimal.specs.Text.{ascii, digits_in, digits, decimal, row, refused_line}
 
 abbrev minus : ℕ → ℤ
 minus n = neg_ℤ (pos n)
@@ -22,10 +22,10 @@ table =
     ∷ (row [], "\n")
     ∷ (row (pos 4 ∷ []), "4\n")
     ∷ (row (pos 4 ∷ minus 1 ∷ pos 0 ∷ []), "4 -1 0\n")
-    ∷ (refusedLine 9, "refused 9\n")
-    ∷ (refusedLine 12, "refused 12\n")
+    ∷ (refused_line 9, "refused 9\n")
+    ∷ (refused_line 12, "refused 12\n")
     ∷ []
 
 pub values : map (λ e. e.0) table ≡ map (λ e. ascii e.1) table
-unfolding digitsIn digits decimal row refusedLine
+unfolding digits_in digits decimal row refused_line
 values = refl

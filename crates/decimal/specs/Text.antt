@@ -12,17 +12,17 @@ abbrev pub digit : ℕ → ℕ
 digit d = code "0" + d
 
 -- n below ten is its one digit; any other has the digits of n / 10 and then n % 10, so that no zero stands in front (k bounds the steps)
-unfoldable pub digitsIn : ℕ → ℕ → List ℕ
-digitsIn zero n = []
-digitsIn (suc k) n =
+unfoldable pub digits_in : ℕ → ℕ → List ℕ
+digits_in zero n = []
+digits_in (suc k) n =
     elim (ltb n 10) [
       | true ↦ digit n ∷ []
-      | false ↦ digitsIn k (n / 10) ++ (digit (n % 10) ∷ [])
+      | false ↦ digits_in k (n / 10) ++ (digit (n % 10) ∷ [])
     ]
 
 -- the digits of n; n + 1 steps are enough
 unfoldable pub digits : ℕ → List ℕ
-digits n = digitsIn (suc n) n
+digits n = digits_in (suc n) n
 
 -- a signed number; `negsuc n` is -(n + 1)
 unfoldable pub decimal : ℤ → List ℕ
@@ -36,8 +36,8 @@ row (x ∷ []) = decimal x ++ ascii "\n"
 row (x ∷ y ∷ ys) = decimal x ++ ascii " " ++ row (y ∷ ys)
 
 -- the line for a refusal with the number k (in the same place)
-unfoldable pub refusedLine : ℕ → List ℕ
-refusedLine k = ascii "refused " ++ digits k ++ ascii "\n"
+unfoldable pub refused_line : ℕ → List ℕ
+refused_line k = ascii "refused " ++ digits k ++ ascii "\n"
 
 -- the bytes b with the text t in place of what stood from `at` on
 unfoldable pub over : List ℕ → ℕ → List ℕ → List ℕ

@@ -1,6 +1,6 @@
 // Numbers as decimal text in lent bytes.
 ghost use Rattle.std.specs.Prelude.{◌≡◌, ◌+◌, ◌≤◌, nat_abs, length};
-ghost use Rattle.decimal.specs.Text.{digits, decimal, row, refusedLine, over, written, count};
+ghost use Rattle.decimal.specs.Text.{digits, decimal, row, refused_line, over, written, count};
 
 // x without its sign: 2147483648 for the least number of 32 bits
 fn magnitude(x: i32) -> u32
@@ -125,8 +125,8 @@ pub fn write_row(numbers: &[i32], out: &mut [u8]) -> usize
 // Writes the line that refuses with the number k to the front of `out`, and returns how many bytes that is.
 // Where the line does not fit, nothing is written, and 0 is returned.
 pub fn write_refused(k: u32, out: &mut [u8]) -> usize
-    ensures value { result ≡ count (refusedLine k) (length out.old) }
-    ensures out_after { out.new ≡ written (refusedLine k) out.old }
+    ensures value { result ≡ count (refused_line k) (length out.old) }
+    ensures out_after { out.new ≡ written (refused_line k) out.old }
 {
     if out.len() < digits_len(k) + 9 {
         return 0;

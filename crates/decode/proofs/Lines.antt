@@ -12,20 +12,20 @@ use lib.Seq.{get_or-take, get_or-drop, drop-drop, take_all, length-take-le}
 use lib.Signed.{mag}
 use Rattle.lifting.specs.Row.{Row}
 use Rattle.decimal.specs.Text.{row, over, written, count}
-use Rattle.decimal.proofs.Order.{lt-or-le}
+use Rattle.decimal.proofs.Order.{lt_or_le}
 use Rattle.decimal.proofs.Length.{row-at-most}
 use Rattle.decimal.proofs.Room.{written-fits, count_fits}
-use Rattle.decimal.proofs.Overlay.{then-text}
+use Rattle.decimal.proofs.Overlay.{then_text}
 use Rattle.decode.specs.Shown.{rows}
 
 -- ---- one row
 
-part-fits : {n : ℕ} (xs : List ℤ) → Row n xs → (from w i : ℕ) → mag (get_or (take w (drop from xs)) i (pos 0)) < 2147483648
-part-fits xs r from w i =
+part_fits : {n : ℕ} (xs : List ℤ) → Row n xs → (from w i : ℕ) → mag (get_or (take w (drop from xs)) i (pos 0)) < 2147483648
+part_fits xs r from w i =
     ⊎_elim
     (λ h. rw (get_or-take w (drop from xs) i (pos 0) h, get_or-drop from xs i (pos 0)) (r.fit (from + i)).sfits)
     (λ h. rw (get_or-eq_default (take w (drop from xs)) (pos 0) {n = i} (omega (arith, length-take w (drop from xs)))) (omega arith))
-    (lt-or-le i w)
+    (lt_or_le i w)
 
 at_most : (xs : List ℤ) → 0 < length xs → ((i : ℕ) → mag (get_or xs i (pos 0)) < 2147483648) → length (row xs) ≤ 12 * length xs
 at_most [] h f = absurd (omega (arith, h))
@@ -35,7 +35,7 @@ module _ (xs : List ℤ) (out : List ℕ) (from w at : ℕ) {n : ℕ} (r : Row n
   pub line-length : length (row (take w (drop from xs))) ≤ 12 * w
   line-length =
       let e : length (take w (drop from xs)) ≡ w = length-take-le w (drop from xs) (omega (arith, length-drop from xs)) in
-      omega (arith, at_most (take w (drop from xs)) (omega (arith, e)) (part-fits xs r from w), e)
+      omega (arith, at_most (take w (drop from xs)) (omega (arith, e)) (part_fits xs r from w), e)
 
   free : length (row (take w (drop from xs))) ≤ length (drop at out)
   free = omega (arith, line-length, length-drop at out)
@@ -48,10 +48,10 @@ module _ (xs : List ℤ) (out : List ℕ) (from w at : ℕ) {n : ℕ} (r : Row n
       rw (add-sub_cancel_left from w, take_all (length out - at) (drop at out) long) at e
       ∙ count_fits (row (take w (drop from xs))) (length (drop at out)) free
 
-  pub line-laid : {ys : List ℕ} → ys ≡ written (row (take (from + w - from) (drop from xs))) (take (length out - at) (drop at out))
+  pub line_laid : {ys : List ℕ} → ys ≡ written (row (take (from + w - from) (drop from xs))) (take (length out - at) (drop at out))
       → take at out ++ (ys ++ drop (length out - at) (drop at out)) ≡ over out at (row (take w (drop from xs)))
   unfolding over
-  line-laid e =
+  line_laid e =
       let t = row (take w (drop from xs)) in
       let q = rw (add-sub_cancel_left from w, take_all (length out - at) (drop at out) long) at e in
       rw (q ∙ written-fits t (drop at out) free, drop_of_length-le (drop at out) {i = length out - at} long, zero-add (length t), append-nil, drop-drop (length t) at out)
@@ -71,12 +71,12 @@ rows_more : (y w : ℕ) (xs : List ℤ) → rows (y + 1) w xs ≡ rows y w xs ++
 rows_more y w xs = rw (add-one y) (more y w xs)
 
 module _ (xs : List ℤ) (b o : List ℕ) (w y : ℕ) {at from : ℕ} (place : from ≡ y * w) (size : at ≡ length (rows y w xs)) where
-  pub next-size : {k : ℕ} → k ≡ length (row (take w (drop from xs))) → at + k ≡ length (rows (y + 1) w xs)
-  next-size e = rw (rows_more y w xs, length-append, size, e, place)
+  pub next_size : {k : ℕ} → k ≡ length (row (take w (drop from xs))) → at + k ≡ length (rows (y + 1) w xs)
+  next_size e = rw (rows_more y w xs, length-append, size, e, place)
 
-  pub next-laid : {p : List ℕ} → o ≡ over b 0 (rows y w xs) → p ≡ over o at (row (take w (drop from xs))) → p ≡ over b 0 (rows (y + 1) w xs)
-  next-laid laid e =
-      rw (rows_more y w xs, ← place) (then-text b o 0 (rows y w xs) (row (take w (drop from xs))) (omega arith) laid (omega (arith, size)) e)
+  pub next_laid : {p : List ℕ} → o ≡ over b 0 (rows y w xs) → p ≡ over o at (row (take w (drop from xs))) → p ≡ over b 0 (rows (y + 1) w xs)
+  next_laid laid e =
+      rw (rows_more y w xs, ← place) (then_text b o 0 (rows y w xs) (row (take w (drop from xs))) (omega arith) laid (omega (arith, size)) e)
 
 -- all rows
 pub last_row : (xs : List ℤ) (b : List ℕ) (w : ℕ) {y h at : ℕ} {o : List ℕ} → y ≤ h → h ≤ y → at ≡ length (rows y w xs) → at ≤ 12 * (y * w) → o ≡ over b 0 (rows y w xs)

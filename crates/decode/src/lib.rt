@@ -5,9 +5,9 @@ ghost use Rattle.std.specs.Prelude.{◌≡◌, ◌*◌, ◌++◌, length};
 ghost use Rattle.picture.specs.Numbers.{first_of, settled};
 ghost use Rattle.plane_file.specs.Header.{answer};
 ghost use Rattle.picture.specs.Planes.{Lengths, planes};
-ghost use Rattle.plane_file.specs.Calls.{headerAnswer};
-ghost use Rattle.plane_file.specs.Numbers.{startChecks, countIn, headerNumber};
-ghost use Rattle.decode.specs.Program.{countCheck, programNumber, planesOf, samplesOf, left};
+ghost use Rattle.plane_file.specs.Calls.{header_answer};
+ghost use Rattle.plane_file.specs.Numbers.{start_checks, count_in, header_number};
+ghost use Rattle.decode.specs.Program.{count_check, program_number, planes_of, samples_of, left};
 
 use inverse::inverse;
 use picture::refusals::TOO_MANY_MACROBLOCKS;
@@ -16,7 +16,7 @@ use plane_file::load::load;
 
 // The header by its words, of at most 16 macroblocks: whether the bytes are as many as they say is not looked at.
 fn read_small(bytes: &[u8]) -> Header
-    ensures { result ≡ answer (first_of (startChecks bytes.now ++ countCheck (countIn bytes.now))) bytes.now }
+    ensures { result ≡ answer (first_of (start_checks bytes.now ++ count_check (count_in bytes.now))) bytes.now }
 {
     let start = read_start(bytes);
     if start.number != 0 {
@@ -37,12 +37,12 @@ fn transform(
     high: &mut [i32],
     samples: &mut [i32],
 ) -> Header
-    requires lengths { Lengths (countIn bytes.now) (planes dc.old low.old high.old) }
-    requires samples_len { length samples.old ≡ 256 * countIn bytes.now }
-    ensures value { result ≡ headerAnswer bytes.now }
+    requires lengths { Lengths (count_in bytes.now) (planes dc.old low.old high.old) }
+    requires samples_len { length samples.old ≡ 256 * count_in bytes.now }
+    ensures value { result ≡ header_answer bytes.now }
     ensures high_after { planes dc.new low.new high.new ≡
-        settled (headerNumber bytes.now) (planesOf bytes.now) (planes dc.old low.old high.old) }
-    ensures samples_after { samples.new ≡ settled (headerNumber bytes.now) (samplesOf bytes.now) samples.old }
+        settled (header_number bytes.now) (planes_of bytes.now) (planes dc.old low.old high.old) }
+    ensures samples_after { samples.new ≡ settled (header_number bytes.now) (samples_of bytes.now) samples.old }
 {
     let header = load(bytes, dc, low, high);
     if header.number != 0 {
@@ -62,13 +62,13 @@ pub fn decode(
     samples: &mut [i32],
 ) -> Header
     requires { (length dc.old ≡ 16) × (length low.old ≡ 240) × (length high.old ≡ 3840) × (length samples.old ≡ 4096) }
-    ensures value { result ≡ answer (programNumber bytes.now) bytes.now }
-    ensures dc_after { dc.new ≡ left bytes.now (countIn bytes.now) (planesOf bytes.now).dc dc.old }
-    ensures low_after { low.new ≡ left bytes.now (15 * countIn bytes.now) (planesOf bytes.now).low low.old }
+    ensures value { result ≡ answer (program_number bytes.now) bytes.now }
+    ensures dc_after { dc.new ≡ left bytes.now (count_in bytes.now) (planes_of bytes.now).dc dc.old }
+    ensures low_after { low.new ≡ left bytes.now (15 * count_in bytes.now) (planes_of bytes.now).low low.old }
     ensures high_after { high.new ≡
-        left bytes.now (240 * countIn bytes.now) (planesOf bytes.now).high high.old }
+        left bytes.now (240 * count_in bytes.now) (planes_of bytes.now).high high.old }
     ensures samples_after { samples.new ≡
-        left bytes.now (256 * countIn bytes.now) (samplesOf bytes.now) samples.old }
+        left bytes.now (256 * count_in bytes.now) (samples_of bytes.now) samples.old }
 {
     let start = read_small(bytes);
     if start.number != 0 {

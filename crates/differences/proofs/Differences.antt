@@ -15,19 +15,19 @@ use Rattle.lifting.specs.Tests.{all}
 
 -- ---- a number and one that is not above it
 
-ahead-cond : (a b : ℕ) (t : Bool) → ltb a b ≡ t → b ≤ a → let z = cond t (negsuc (b - suc a)) (pos (a - b)) in z ≡ pos (nat_abs z)
-ahead-cond a b true e h = absurd (omega (arith, ltb-true a b e))
-ahead-cond a b false e h = refl
+ahead_cond : (a b : ℕ) (t : Bool) → ltb a b ≡ t → b ≤ a → let z = cond t (negsuc (b - suc a)) (pos (a - b)) in z ≡ pos (nat_abs z)
+ahead_cond a b true e h = absurd (omega (arith, ltb-true a b e))
+ahead_cond a b false e h = refl
 
 pub not_yes : true ≡ false → ⊥
 not_yes e = let z : ◌≡◌ {A = ℕ} 0 1 = cc in omega arith
 
 pub ahead : (a b : ℤ) → lt_z a b ≡ false → a -ℤ b ≡ pos (nat_abs (a -ℤ b))
 ahead (pos a) (pos zero) e = refl
-ahead (pos a) (pos (suc b)) e = ahead-cond a (suc b) (ltb a (suc b)) refl (ltb-false a (suc b) e)
+ahead (pos a) (pos (suc b)) e = ahead_cond a (suc b) (ltb a (suc b)) refl (ltb-false a (suc b) e)
 ahead (pos a) (negsuc b) e = refl
 ahead (negsuc a) (pos b) e = absurd (not_yes e)
-ahead (negsuc a) (negsuc b) e = ahead-cond (suc b) (suc a) (ltb (suc b) (suc a)) refl (omega (arith, ltb-false b a e))
+ahead (negsuc a) (negsuc b) e = ahead_cond (suc b) (suc a) (ltb (suc b) (suc a)) refl (omega (arith, ltb-false b a e))
 
 -- ---- the other way round
 
@@ -37,30 +37,30 @@ not-above (pos a) (negsuc b) e = absurd (not_yes (sym e))
 not-above (negsuc a) (pos b) e = refl
 not-above (negsuc a) (negsuc b) e = le-ltb a b (omega (arith, ltb-true b a e))
 
-natAbs-neg : (z : ℤ) → nat_abs (neg_ℤ z) ≡ nat_abs z
-natAbs-neg (pos zero) = refl
-natAbs-neg (pos (suc n)) = refl
-natAbs-neg (negsuc n) = refl
+nat_abs_neg : (z : ℤ) → nat_abs (neg_ℤ z) ≡ nat_abs z
+nat_abs_neg (pos zero) = refl
+nat_abs_neg (pos (suc n)) = refl
+nat_abs_neg (negsuc n) = refl
 
 turned : (a b : ℤ) → nat_abs (b -ℤ a) ≡ nat_abs (a -ℤ b)
-turned a b = ap nat_abs (+ℤ_comm b (neg_ℤ a) ∙ sym (neg_ℤ-+ℤ a (neg_ℤ b) ∙ ap (λ (z : ℤ). neg_ℤ a +ℤ z) (neg_ℤ-neg_ℤ b))) ∙ natAbs-neg (a -ℤ b)
+turned a b = ap nat_abs (+ℤ_comm b (neg_ℤ a) ∙ sym (neg_ℤ-+ℤ a (neg_ℤ b) ∙ ap (λ (z : ℤ). neg_ℤ a +ℤ z) (neg_ℤ-neg_ℤ b))) ∙ nat_abs_neg (a -ℤ b)
 
 pub behind : (a b : ℤ) → lt_z a b ≡ true → b -ℤ a ≡ pos (nat_abs (a -ℤ b))
 behind a b e = ahead b a (not-above a b e) ∙ ap pos (turned a b)
 
 -- ---- 32 bits without a sign hold it
 
-reach-cond : (a b most : ℕ) (t : Bool) → a ≤ most → suc b ≤ most → nat_abs (cond t (negsuc (suc b - suc a)) (pos (a - suc b))) ≤ most
-reach-cond a b most true h k = omega arith
-reach-cond a b most false h k = omega arith
+reach_cond : (a b most : ℕ) (t : Bool) → a ≤ most → suc b ≤ most → nat_abs (cond t (negsuc (suc b - suc a)) (pos (a - suc b))) ≤ most
+reach_cond a b most true h k = omega arith
+reach_cond a b most false h k = omega arith
 
 pub reach : (a b : ℤ) → SFits w32 a → SFits w32 b → nat_abs (a -ℤ b) ≤ 4294967295
 reach (pos a) (pos zero) f g = omega (arith, f.sfits)
-reach (pos a) (pos (suc b)) f g = reach-cond a b 4294967295 (ltb a (suc b)) (omega (arith, f.sfits)) (omega (arith, g.sfits))
+reach (pos a) (pos (suc b)) f g = reach_cond a b 4294967295 (ltb a (suc b)) (omega (arith, f.sfits)) (omega (arith, g.sfits))
 reach (pos a) (negsuc b) f g = omega (arith, f.sfits, g.sfits)
-reach (negsuc a) (pos zero) f g = reach-cond 0 a 4294967295 (ltb 0 (suc a)) (omega arith) (omega (arith, f.sfits))
+reach (negsuc a) (pos zero) f g = reach_cond 0 a 4294967295 (ltb 0 (suc a)) (omega arith) (omega (arith, f.sfits))
 reach (negsuc a) (pos (suc b)) f g = omega (arith, f.sfits, g.sfits)
-reach (negsuc a) (negsuc b) f g = reach-cond (suc b) a 4294967295 (ltb (suc b) (suc a)) (omega (arith, g.sfits)) (omega (arith, f.sfits))
+reach (negsuc a) (negsuc b) f g = reach_cond (suc b) a 4294967295 (ltb (suc b) (suc a)) (omega (arith, g.sfits)) (omega (arith, f.sfits))
 
 -- ---- one more is looked at
 

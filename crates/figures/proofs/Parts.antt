@@ -31,12 +31,12 @@ pair {a} {b} g e = rw (back {x = a} g.0.1, back {x = b} g.1.0.1) e
 abbrev pub Told : Type 0 → Type 0 → Type 0 → Type 0 → Type 0 → Four → Type 0
 Told X Y Z W O f = (X × (mag f.a < 2147483648)) × ((Y × (mag f.b < 2147483648)) × ((Z × (mag f.c < 2147483648)) × ((W × (mag f.d < 2147483648)) × O)))
 
-abbrev pub keptFour : Four → Four
-keptFour f = record { a = kept f.a; b = kept f.b; c = kept f.c; d = kept f.d }
+abbrev pub kept_four : Four → Four
+kept_four f = record { a = kept f.a; b = kept f.b; c = kept f.c; d = kept f.d }
 
-pub told : {X Y Z W O : Type 0} (f : Four) → Told X Y Z W O f → keptFour f ≡ f
+pub told : {X Y Z W O : Type 0} (f : Four) → Told X Y Z W O f → kept_four f ≡ f
 told f g = rw (back {x = f.a} g.0.1, back {x = f.b} g.1.0.1, back {x = f.c} g.1.1.0.1, back {x = f.d} g.1.1.1.0.1)
 
 -- a `Four` that an operator answered, as its local holds it
-pub four : {X Y Z W O : Type 0} {f : Four} {w : List ℤ} → Told X Y Z W O f → list f ≡ w → list (keptFour f) ≡ w
+pub four : {X Y Z W O : Type 0} {f : Four} {w : List ℤ} → Told X Y Z W O f → list f ≡ w → list (kept_four f) ≡ w
 four {f} g e = ap list (told f g) ∙ e

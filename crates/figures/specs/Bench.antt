@@ -1,7 +1,7 @@
 -- The starred bench values of 01 as one table: an operator, what goes in and what comes out.
 use Rattle.std.specs.Prelude.{ℕ, ◌≡◌, List, [], ◌∷◌, ◌++◌, map, length, replicate, ℤ, pos, neg_ℤ}
 use Rattle.lifting.specs.Program.{Program, run}
-use Rattle.figures.specs.Figures.{hadamard, odd, oddOdd, rotation, scale, postHadamard, core}
+use Rattle.figures.specs.Figures.{hadamard, odd, odd_odd, rotation, scale, post_hadamard, core}
 
 pub record Value : Type 0 where
   pub operator : Program
@@ -38,11 +38,11 @@ starred =
     ∷ (hadamard (pos 0) on four (pos 2147483647) (pos 0) (pos 0) (pos 1)
     gives four (minus 1073741824) (minus 1073741825) (minus 1073741825) (minus 1073741824))
     ∷ (odd on four (pos 8) (pos 0) (pos 0) (pos 0) gives four (pos 6) (pos 5) (pos 2) (pos 2))
-    ∷ (oddOdd on four (pos 8) (pos 0) (pos 0) (pos 0) gives four (pos 7) (minus 3) (minus 3) (pos 1))
+    ∷ (odd_odd on four (pos 8) (pos 0) (pos 0) (pos 0) gives four (pos 7) (minus 3) (minus 3) (pos 1))
     ∷ (rotation on two (pos 0) (pos 1) gives two (minus 1) (pos 1))
     ∷ (scale on two (pos 8) (pos 0) gives two (pos 9) (pos 5))
     ∷ (scale on two (minus 1) (pos 0) gives two (minus 2) (minus 2))
-    ∷ (postHadamard on four (pos 8) (pos 0) (pos 0) (pos 0) gives four (pos 4) (pos 0) (pos 0) (pos 4))
+    ∷ (post_hadamard on four (pos 8) (pos 0) (pos 0) (pos 0) gives four (pos 4) (pos 0) (pos 0) (pos 4))
     ∷ (core on first (pos 16) gives replicate 16 (pos 4))
     ∷ (core on second (pos 8)
     gives four (pos 3) (pos 1) (minus 1) (minus 3) ++ four (pos 3) (pos 1) (minus 1) (minus 3)

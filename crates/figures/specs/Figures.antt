@@ -40,8 +40,8 @@ odd =
     ⨾ end
 
 -- Figure 4.6
-unfoldable pub oddOdd : Program
-oddOdd =
+unfoldable pub odd_odd : Program
+odd_odd =
     d += var a
     ⨾ c -= var b
     ⨾ a -= (var d ≫ 1)
@@ -58,19 +58,19 @@ oddOdd =
     ⨾ end
 
 -- The reorder that begins Figure 4.8, and its undoing: coefficient k goes to place `at k` of the table (01, "One block")
-abbrev pub inverseReorder : List ℕ
-inverseReorder = 0 ∷ 8 ∷ 4 ∷ 13 ∷ 2 ∷ 15 ∷ 3 ∷ 14 ∷ 1 ∷ 12 ∷ 5 ∷ 9 ∷ 7 ∷ 11 ∷ 6 ∷ 10 ∷ []
+abbrev pub inverse_reorder : List ℕ
+inverse_reorder = 0 ∷ 8 ∷ 4 ∷ 13 ∷ 2 ∷ 15 ∷ 3 ∷ 14 ∷ 1 ∷ 12 ∷ 5 ∷ 9 ∷ 7 ∷ 11 ∷ 6 ∷ 10 ∷ []
 
-abbrev pub forwardReorder : List ℕ
-forwardReorder = 0 ∷ 8 ∷ 4 ∷ 6 ∷ 2 ∷ 10 ∷ 14 ∷ 12 ∷ 1 ∷ 11 ∷ 15 ∷ 13 ∷ 9 ∷ 3 ∷ 7 ∷ 5 ∷ []
+abbrev pub forward_reorder : List ℕ
+forward_reorder = 0 ∷ 8 ∷ 4 ∷ 6 ∷ 2 ∷ 10 ∷ 14 ∷ 12 ∷ 1 ∷ 11 ∷ 15 ∷ 13 ∷ 9 ∷ 3 ∷ 7 ∷ 5 ∷ []
 
 -- Figure 4.8: the two stages, and the whole
-unfoldable pub coreStages : Program
-coreStages =
+unfoldable pub core_stages : Program
+core_stages =
     apply Hadamard (hadamard (pos 1)) (four 0 1 4 5)
     (apply Odd odd (four 2 3 6 7)
     (apply Odd odd (four 8 12 9 13)
-    (apply OddOdd oddOdd (four 10 11 14 15)
+    (apply OddOdd odd_odd (four 10 11 14 15)
     (apply Hadamard (hadamard (pos 0)) (four 0 3 12 15)
     (apply Hadamard (hadamard (pos 0)) (four 5 6 9 10)
     (apply Hadamard (hadamard (pos 0)) (four 1 2 13 14)
@@ -78,7 +78,7 @@ coreStages =
     end)))))))
 
 unfoldable pub core : Program
-core = reorder inverseReorder forwardReorder coreStages
+core = reorder inverse_reorder forward_reorder core_stages
 
 -- Figure 4.9
 unfoldable pub rotation : Program
@@ -97,8 +97,8 @@ scale =
     ⨾ end
 
 -- Figure 4.11
-unfoldable pub postHadamard : Program
-postHadamard =
+unfoldable pub post_hadamard : Program
+post_hadamard =
     b -= var c
     ⨾ a += (3× (var d) ⊕ pos 4 ≫ 3)
     ⨾ d -= (var b ≫ 1)
@@ -109,8 +109,8 @@ postHadamard =
     ⨾ end
 
 -- Figure 4.12
-unfoldable pub postOddOdd : Program
-postOddOdd =
+unfoldable pub post_odd_odd : Program
+post_odd_odd =
     d += var a
     ⨾ c -= var b
     ⨾ a -= (var d ≫ 1)
@@ -125,8 +125,8 @@ postOddOdd =
     ⨾ end
 
 -- Figure 4.13
-unfoldable pub fourFilter : Program
-fourFilter =
+unfoldable pub four_filter : Program
+four_filter =
     a += var d
     ⨾ b += var c
     ⨾ d -= (var a ⊕ pos 1 ≫ 1)
@@ -143,8 +143,8 @@ fourFilter =
     ⨾ end)
 
 -- Figure 4.14. 2x2T_h_POST takes no R, so the spare 0 that the figure hands it is left out.
-unfoldable pub squareFilter : Program
-squareFilter =
+unfoldable pub square_filter : Program
+square_filter =
     apply Hadamard (hadamard (pos 0)) (four a d m p)
     (apply Hadamard (hadamard (pos 0)) (four b c n o)
     (apply Hadamard (hadamard (pos 0)) (four e h i l)
@@ -153,13 +153,13 @@ squareFilter =
     (apply Rotation rotation (two j i)
     (apply Rotation rotation (two h d)
     (apply Rotation rotation (two g c)
-    (apply PostOddOdd postOddOdd (four k l o p)
+    (apply PostOddOdd post_odd_odd (four k l o p)
     (apply Scale scale (two a p)
     (apply Scale scale (two b o)
     (apply Scale scale (two e l)
     (apply Scale scale (two f k)
-    (apply PostHadamard postHadamard (four a d m p)
-    (apply PostHadamard postHadamard (four b c n o)
-    (apply PostHadamard postHadamard (four e h i l)
-    (apply PostHadamard postHadamard (four f g j k)
+    (apply PostHadamard post_hadamard (four a d m p)
+    (apply PostHadamard post_hadamard (four b c n o)
+    (apply PostHadamard post_hadamard (four e h i l)
+    (apply PostHadamard post_hadamard (four f g j k)
     end))))))))))))))))

@@ -2,9 +2,9 @@
 // only where one of these is large, and nothing is stored. The walk ends at the first that wrapped.
 ghost use Rattle.std.specs.Prelude.{◌≡◌, ◌+◌, ◌-◌, ◌*◌, ◌<◌, ◌≤◌, length};
 ghost use Rattle.lifting.specs.Program.{each};
-ghost use Rattle.lifting.specs.Wraps.{undoWraps};
-ghost use Rattle.lifting.specs.AnyUse.{anyUse};
-ghost use Rattle.transform.specs.Level.{cell, squareFilterAt, fourFilterAt, cornerFilterAt, squareFilters, rowFilters, columnFilters, alongEdges, cornerFilters, filtersIf, filters as filterProgram};
+ghost use Rattle.lifting.specs.Wraps.{undo_wraps};
+ghost use Rattle.lifting.specs.AnyUse.{any_use};
+ghost use Rattle.transform.specs.Level.{cell, square_filter_at, four_filter_at, corner_filter_at, square_filters, row_filters, column_filters, along_edges, corner_filters, filters_if, filters as filterProgram};
 
 use four_filter::unfiltered_wraps;
 use grid::{get_corner, get_four, get_square};
@@ -16,7 +16,7 @@ use square_filter::undo_square_filter_wraps;
 // A window, judged step by step.
 fn judge_window(grid: &[i32], w: usize, at: usize) -> bool
     requires { at + w + w + w + 3 < length grid.now }
-    ensures { result ≡ anyUse undoWraps (squareFilterAt w at) grid.now }
+    ensures { result ≡ any_use undo_wraps (square_filter_at w at) grid.now }
 {
     undo_square_filter_wraps(get_square(grid, w, at))
 }
@@ -24,7 +24,7 @@ fn judge_window(grid: &[i32], w: usize, at: usize) -> bool
 // The same in less time where it cannot have wrapped: a window that gave numbers of at most 2^27 in magnitude has not.
 fn window_wraps(grid: &[i32], w: usize, at: usize) -> bool
     requires { at + w + w + w + 3 < length grid.now }
-    ensures { result ≡ anyUse undoWraps (squareFilterAt w at) grid.now }
+    ensures { result ≡ any_use undo_wraps (square_filter_at w at) grid.now }
 {
     let second = at + w;
     let third = second + w;
@@ -41,14 +41,14 @@ fn window_wraps(grid: &[i32], w: usize, at: usize) -> bool
 
 fn four_wraps(grid: &[i32], step: usize, at: usize) -> bool
     requires { at + step + step + step < length grid.now }
-    ensures { result ≡ anyUse undoWraps (fourFilterAt step at) grid.now }
+    ensures { result ≡ any_use undo_wraps (four_filter_at step at) grid.now }
 {
     unfiltered_wraps(get_four(grid, step, at))
 }
 
 fn corner_wraps(grid: &[i32], w: usize, at: usize) -> bool
     requires { at + w + 1 < length grid.now }
-    ensures { result ≡ anyUse undoWraps (cornerFilterAt w at) grid.now }
+    ensures { result ≡ any_use undo_wraps (corner_filter_at w at) grid.now }
 {
     unfiltered_wraps(get_corner(grid, w, at))
 }
@@ -59,7 +59,7 @@ fn corner_wraps(grid: &[i32], w: usize, at: usize) -> bool
 fn window_row_wraps(grid: &[i32], p: usize, j: usize) -> bool
     requires p_in_bounds { 16 * (j * p + p + p) ≤ length grid.now }
     requires p_nonzero { (0 < p) × (p ≤ 2100) × (j < 1652) }
-    ensures { result ≡ anyUse undoWraps (each (p - 1) (λ i. squareFilterAt (4 * p) (cell p (4 * j + 2) (4 * i + 2)))) grid.now }
+    ensures { result ≡ any_use undo_wraps (each (p - 1) (λ i. square_filter_at (4 * p) (cell p (4 * j + 2) (4 * i + 2)))) grid.now }
 {
     let w = 4 * p;
     let first = (4 * j + 2) * w + 2;
@@ -75,7 +75,7 @@ fn window_row_wraps(grid: &[i32], p: usize, j: usize) -> bool
 fn row_wraps(grid: &[i32], p: usize, q: usize, r: usize) -> bool
     requires q_in_bounds { 16 * (p * q) ≤ length grid.now }
     requires p_nonzero { (0 < p) × (p ≤ 2100) × (q ≤ 1652) × (r < 4 * q) }
-    ensures { result ≡ anyUse undoWraps (rowFilters p r) grid.now }
+    ensures { result ≡ any_use undo_wraps (row_filters p r) grid.now }
 {
     let first = r * (4 * p) + 2;
     let uses = p - 1;
@@ -90,7 +90,7 @@ fn row_wraps(grid: &[i32], p: usize, q: usize, r: usize) -> bool
 fn column_wraps(grid: &[i32], p: usize, q: usize, c: usize) -> bool
     requires q_in_bounds { 16 * (p * q) ≤ length grid.now }
     requires c_bound { (c < 4 * p) × (p ≤ 2100) × (0 < q) × (q ≤ 1652) }
-    ensures { result ≡ anyUse undoWraps (columnFilters p q c) grid.now }
+    ensures { result ≡ any_use undo_wraps (column_filters p q c) grid.now }
 {
     let w = 4 * p;
     let first = 2 * w + c;
@@ -108,7 +108,7 @@ fn column_wraps(grid: &[i32], p: usize, q: usize, c: usize) -> bool
 fn windows_wrap(grid: &[i32], p: usize, q: usize) -> bool
     requires q_in_bounds { 16 * (p * q) ≤ length grid.now }
     requires p_nonzero { (0 < p) × (p ≤ 2100) × (0 < q) × (q ≤ 1652) }
-    ensures { result ≡ anyUse undoWraps (squareFilters p q) grid.now }
+    ensures { result ≡ any_use undo_wraps (square_filters p q) grid.now }
 {
     let rows = q - 1;
     for j in 0..rows {
@@ -122,7 +122,7 @@ fn windows_wrap(grid: &[i32], p: usize, q: usize) -> bool
 fn edge_rows_wrap(grid: &[i32], p: usize, q: usize) -> bool
     requires q_in_bounds { 16 * (p * q) ≤ length grid.now }
     requires p_nonzero { (0 < p) × (p ≤ 2100) × (0 < q) × (q ≤ 1652) }
-    ensures { result ≡ anyUse undoWraps (alongEdges q (rowFilters p)) grid.now }
+    ensures { result ≡ any_use undo_wraps (along_edges q (row_filters p)) grid.now }
 {
     let first = row_wraps(grid, p, q, 0);
     let second = row_wraps(grid, p, q, 1);
@@ -134,7 +134,7 @@ fn edge_rows_wrap(grid: &[i32], p: usize, q: usize) -> bool
 fn edge_columns_wrap(grid: &[i32], p: usize, q: usize) -> bool
     requires q_in_bounds { 16 * (p * q) ≤ length grid.now }
     requires p_nonzero { (0 < p) × (p ≤ 2100) × (0 < q) × (q ≤ 1652) }
-    ensures { result ≡ anyUse undoWraps (alongEdges p (columnFilters p q)) grid.now }
+    ensures { result ≡ any_use undo_wraps (along_edges p (column_filters p q)) grid.now }
 {
     let first = column_wraps(grid, p, q, 0);
     let second = column_wraps(grid, p, q, 1);
@@ -146,7 +146,7 @@ fn edge_columns_wrap(grid: &[i32], p: usize, q: usize) -> bool
 fn corners_wrap(grid: &[i32], p: usize, q: usize) -> bool
     requires q_in_bounds { 16 * (p * q) ≤ length grid.now }
     requires p_nonzero { (0 < p) × (p ≤ 2100) × (0 < q) × (q ≤ 1652) }
-    ensures { result ≡ anyUse undoWraps (cornerFilters p q) grid.now }
+    ensures { result ≡ any_use undo_wraps (corner_filters p q) grid.now }
 {
     let w = 4 * p;
     let right = w - 2;
@@ -161,7 +161,7 @@ fn corners_wrap(grid: &[i32], p: usize, q: usize) -> bool
 fn filters_wrap(grid: &[i32], p: usize, q: usize) -> bool
     requires q_in_bounds { 16 * (p * q) ≤ length grid.now }
     requires p_nonzero { (0 < p) × (p ≤ 2100) × (0 < q) × (q ≤ 1652) }
-    ensures { result ≡ undoWraps (filterProgram p q) grid.now }
+    ensures { result ≡ undo_wraps (filterProgram p q) grid.now }
 {
     if windows_wrap(grid, p, q) {
         return true;
@@ -179,7 +179,7 @@ fn filters_wrap(grid: &[i32], p: usize, q: usize) -> bool
 pub fn filters_wrap_if(grid: &[i32], filtered: bool, p: usize, q: usize) -> bool
     requires q_in_bounds { 16 * (p * q) ≤ length grid.now }
     requires p_nonzero { (0 < p) × (p ≤ 2100) × (0 < q) × (q ≤ 1652) }
-    ensures { result ≡ undoWraps (filtersIf filtered p q) grid.now }
+    ensures { result ≡ undo_wraps (filters_if filtered p q) grid.now }
 {
     if filtered {
         return filters_wrap(grid, p, q);

@@ -7,11 +7,11 @@ use borrow.Author.Tests.{eq-eqb, ne_eqb}
 use lib.IntN.{ℤ}
 use lib.ListN.{length}
 use Rattle.picture.specs.Planes.{Planes, Lengths}
-use Rattle.picture.specs.Refusals.{samplesLength}
-use Rattle.picture.specs.Numbers.{first_of, settled, planeChecks, sampleCheck}
-use Rattle.picture.proofs.NumberLaws.{both-pass, settled-refused}
+use Rattle.picture.specs.Refusals.{samples_length}
+use Rattle.picture.specs.Numbers.{first_of, settled, plane_checks, sample_check}
+use Rattle.picture.proofs.NumberLaws.{both_pass, settled-refused}
 use Rattle.picture.proofs.CheckLaws.{planes-fit, samples-fit}
-use Rattle.find_step.specs.FindStep.{IndexBeside, lengthChecks}
+use Rattle.find_step.specs.FindStep.{IndexBeside, length_checks}
 
 -- every slice of its length
 pub record Fits (n : ℕ) (a b : List ℤ) (s : Planes) : Type 0 where
@@ -20,21 +20,21 @@ pub record Fits (n : ℕ) (a b : List ℤ) (s : Planes) : Type 0 where
   pub planes : Lengths n s
 
 module _ (n : ℕ) (samples second : List ℤ) (s : Planes) where
-  pub samples-refused : (length samples ≡ 256 * n → ⊥) → samplesLength ≡ first_of (lengthChecks n samples second s)
+  pub samples-refused : (length samples ≡ 256 * n → ⊥) → samples_length ≡ first_of (length_checks n samples second s)
   samples-refused h = simp (ne_eqb (length samples) (256 * n) h)
 
   module _ (e : length samples ≡ 256 * n) where
-    pub second-refused : (length second ≡ 256 * n → ⊥) → samplesLength ≡ first_of (lengthChecks n samples second s)
+    pub second-refused : (length second ≡ 256 * n → ⊥) → samples_length ≡ first_of (length_checks n samples second s)
     second-refused h = simp (eq-eqb (length samples) (256 * n) e, ne_eqb (length second) (256 * n) h)
 
-    pub planes-decide : length second ≡ 256 * n → {r : ℕ} → r ≡ first_of (planeChecks n s) → r ≡ first_of (lengthChecks n samples second s)
+    pub planes-decide : length second ≡ 256 * n → {r : ℕ} → r ≡ first_of (plane_checks n s) → r ≡ first_of (length_checks n samples second s)
     planes-decide f q = q ∙ sym (simp (eq-eqb (length samples) (256 * n) e, eq-eqb (length second) (256 * n) f))
 
   -- checks that pass
-  pub lengths-fit : first_of (lengthChecks n samples second s) ≡ 0 → Fits n samples second s
-  lengths-fit e =
-      let (first, rest) = both-pass (sampleCheck n samples) (sampleCheck n second ++ planeChecks n s) e in
-      let (next, planes) = both-pass (sampleCheck n second) (planeChecks n s) rest in
+  pub lengths_fit : first_of (length_checks n samples second s) ≡ 0 → Fits n samples second s
+  lengths_fit e =
+      let (first, rest) = both_pass (sample_check n samples) (sample_check n second ++ plane_checks n s) e in
+      let (next, planes) = both_pass (sample_check n second) (plane_checks n s) rest in
       record { samples = samples-fit n samples first; second = samples-fit n second next; planes = planes-fit n s planes }
 
 -- what a refusal leaves: index 0, and every slice as it was

@@ -11,7 +11,7 @@ answer-passes : (test : ℕ → Bool) → test 0 ≡ true → (index : ℕ) → 
 answer-passes test z zero a = z
 answer-passes test z (suc k) a = a.2
 
-pub find-step-claim : FindStepClaim
-find-step-claim mode size shape samples row tolerance =
+pub find_step_claim : FindStepClaim
+find_step_claim mode size shape samples row tolerance =
     let z = zero-passes (mode_of mode) size samples shape.sized row tolerance in
     record { zero = z; same = samples-same (mode_of mode) size samples shape.sized row; answered = λ index a. answer-passes _ z index a }

@@ -3,7 +3,7 @@ use Rattle.std.specs.Prelude.{ℕ, zero, suc, ◌≤◌, ◌<◌, ◌≡◌, Boo
 use Rattle.picture.specs.declared.size.Size.{Size}
 use Rattle.picture.specs.Sizes.{macroblocks}
 use Rattle.picture.specs.Planes.{Planes}
-use Rattle.picture.specs.Numbers.{first_of, shapeChecks, planeChecks, sampleCheck}
+use Rattle.picture.specs.Numbers.{first_of, shape_checks, plane_checks, sample_check}
 
 -- ---- the answer
 
@@ -24,9 +24,9 @@ IndexBeside (suc k) test index = index ≡ 0
 -- ---- the number
 
 -- 7 for the samples and then for the second samples, then 4, 5, 6
-abbrev pub lengthChecks : ℕ → List ℤ → List ℤ → Planes → List ℕ
-lengthChecks n samples second s = sampleCheck n samples ++ sampleCheck n second ++ planeChecks n s
+abbrev pub length_checks : ℕ → List ℤ → List ℤ → Planes → List ℕ
+length_checks n samples second s = sample_check n samples ++ sample_check n second ++ plane_checks n s
 
 -- as forward: 1, 2, 3 and then those
-unfoldable pub findNumber : ℕ → Size → List ℤ → List ℤ → Planes → ℕ
-findNumber mode size samples second s = first_of (shapeChecks mode size ++ lengthChecks (macroblocks size) samples second s)
+unfoldable pub find_number : ℕ → Size → List ℤ → List ℤ → Planes → ℕ
+find_number mode size samples second s = first_of (shape_checks mode size ++ length_checks (macroblocks size) samples second s)

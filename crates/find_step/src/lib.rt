@@ -3,8 +3,8 @@ ghost use Rattle.std.specs.Prelude.{◌≡◌, ◌*◌, ◌≤◌, length};
 ghost use Rattle.picture.specs.Sizes.{Sized, macroblocks};
 ghost use Rattle.picture.specs.Planes.{Lengths, planes};
 ghost use Rattle.picture.specs.Numbers.{first_of, settled};
-ghost use Rattle.tries.specs.Tries.{triedPlanesBy, triedSamplesBy, passesBy, triedPlanes, triedSamples, passes};
-ghost use Rattle.find_step.specs.FindStep.{Answer, IndexBeside, lengthChecks, findNumber};
+ghost use Rattle.tries.specs.Tries.{tried_planes_by, tried_samples_by, passes_by, tried_planes, tried_samples, passes};
+ghost use Rattle.find_step.specs.FindStep.{Answer, IndexBeside, length_checks, find_number};
 
 use picture::checks::{Checked, check_planes, check_shape};
 use picture::counts::Area;
@@ -36,9 +36,9 @@ fn find_index(
     requires samples_len { length samples.now ≡ 256 * macroblocks size }
     requires lengths { Lengths (macroblocks size) (planes dc.old low.old high.old) }
     requires second_len { length second.old ≡ 256 * macroblocks size }
-    ensures answer { Answer (passesBy mode size samples.now tolerance) result }
-    ensures high_after { planes dc.new low.new high.new ≡ triedPlanesBy mode size samples.now result }
-    ensures second_after { second.new ≡ triedSamplesBy mode size samples.now result }
+    ensures answer { Answer (passes_by mode size samples.now tolerance) result }
+    ensures high_after { planes dc.new low.new high.new ≡ tried_planes_by mode size samples.now result }
+    ensures second_after { second.new ≡ tried_samples_by mode size samples.now result }
 {
     let mut index = 255;
     while 1 < index {
@@ -61,7 +61,7 @@ fn check_lengths(
     high: &[i32],
 ) -> u32
     requires { n.0 ≤ 216825 }
-    ensures { result ≡ first_of (lengthChecks n.0 samples.now second.now (planes dc.now low.now high.now)) }
+    ensures { result ≡ first_of (length_checks n.0 samples.now second.now (planes dc.now low.now high.now)) }
 {
     let wanted = 256 * (n.0 as usize);
     if samples.len() != wanted {
@@ -86,11 +86,11 @@ fn find_sized(
 ) -> Found
     requires { Sized size }
     ensures number_value { result.number ≡
-        first_of (lengthChecks (macroblocks size) samples.now second.old (planes dc.old low.old high.old)) }
-    ensures index_beside { IndexBeside result.number (passesBy mode size samples.now tolerance) result.index }
+        first_of (length_checks (macroblocks size) samples.now second.old (planes dc.old low.old high.old)) }
+    ensures index_beside { IndexBeside result.number (passes_by mode size samples.now tolerance) result.index }
     ensures high_after { planes dc.new low.new high.new ≡
-        settled result.number (triedPlanesBy mode size samples.now result.index) (planes dc.old low.old high.old) }
-    ensures second_after { second.new ≡ settled result.number (triedSamplesBy mode size samples.now result.index) second.old }
+        settled result.number (tried_planes_by mode size samples.now result.index) (planes dc.old low.old high.old) }
+    ensures second_after { second.new ≡ settled result.number (tried_samples_by mode size samples.now result.index) second.old }
 {
     let n = size.macroblocks();
     let number = check_lengths(n, samples, second, dc, low, high);
@@ -111,11 +111,11 @@ pub fn find_step(
     high: &mut [i32],
     second: &mut [i32],
 ) -> Found
-    ensures number_value { result.number ≡ findNumber mode size samples.now second.old (planes dc.old low.old high.old) }
+    ensures number_value { result.number ≡ find_number mode size samples.now second.old (planes dc.old low.old high.old) }
     ensures index_beside { IndexBeside result.number (passes mode size samples.now tolerance) result.index }
     ensures high_after { planes dc.new low.new high.new ≡
-        settled result.number (triedPlanes mode size samples.now result.index) (planes dc.old low.old high.old) }
-    ensures second_after { second.new ≡ settled result.number (triedSamples mode size samples.now result.index) second.old }
+        settled result.number (tried_planes mode size samples.now result.index) (planes dc.old low.old high.old) }
+    ensures second_after { second.new ≡ settled result.number (tried_samples mode size samples.now result.index) second.old }
 {
     match check_shape(mode, size) {
         Checked::Refused(number) => Found { number, index: 0 },

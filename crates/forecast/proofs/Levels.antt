@@ -9,96 +9,96 @@ use mir.Val.{Fits}
 use mir.Syntax.{w32}
 use Rattle.lifting.specs.Program.{Program, end, Operator, Core, SquareFilter, FourFilter, ◌then◌}
 use Rattle.lifting.specs.OperatorUses.{uses}
-use Rattle.lifting.proofs.OperatorUses.{uses-then, uses-each}
-use Rattle.figures.specs.Figures.{core, coreStages, hadamard, odd, oddOdd, rotation, scale, postHadamard, postOddOdd, fourFilter, squareFilter}
+use Rattle.lifting.proofs.OperatorUses.{uses_then, uses-each}
+use Rattle.figures.specs.Figures.{core, core_stages, hadamard, odd, odd_odd, rotation, scale, post_hadamard, post_odd_odd, four_filter, square_filter}
 use Rattle.forecast.specs.declared.LevelUses.{LevelUses}
-use Rattle.forecast.specs.Claims.{levelCounts, LevelClaim}
-use Rattle.forecast.specs.Parts.{usesIn, Squares, Few}
-use Rattle.transform.specs.Level.{coreAt, squareFilterAt, fourFilterAt, cornerFilterAt, cores, squareFilters, rowFilters, columnFilters, alongEdges, cornerFilters, filters, level}
+use Rattle.forecast.specs.Claims.{level_counts, LevelClaim}
+use Rattle.forecast.specs.Parts.{uses_in, Squares, Few}
+use Rattle.transform.specs.Level.{core_at, square_filter_at, four_filter_at, corner_filter_at, cores, square_filters, row_filters, column_filters, along_edges, corner_filters, filters, level}
 
 -- ---- any operator
 
 module _ (o : Operator) where
   -- its uses in one core transform, one square filter and one four-number filter
-  abbrev perCore : ℕ
-  perCore = uses o (coreAt 0 0)
+  abbrev per_core : ℕ
+  per_core = uses o (core_at 0 0)
 
-  abbrev perSquareFilter : ℕ
-  perSquareFilter = uses o (squareFilterAt 0 0)
+  abbrev per_square_filter : ℕ
+  per_square_filter = uses o (square_filter_at 0 0)
 
-  abbrev perFourFilter : ℕ
-  perFourFilter = uses o (fourFilterAt 0 0)
+  abbrev per_four_filter : ℕ
+  per_four_filter = uses o (four_filter_at 0 0)
 
   module _ (p q : ℕ) where
-    cores-use : uses o (cores p q) ≡ q * (p * perCore)
-    unfolding cores coreAt uses
-    cores-use = uses-each o (p * perCore) q _ (λ j. uses-each o perCore p _ (λ i. refl))
+    cores-use : uses o (cores p q) ≡ q * (p * per_core)
+    unfolding cores core_at uses
+    cores-use = uses-each o (p * per_core) q _ (λ j. uses-each o per_core p _ (λ i. refl))
 
-    square-filters-use : uses o (squareFilters p q) ≡ (q - 1) * ((p - 1) * perSquareFilter)
-    unfolding squareFilters squareFilterAt uses
-    square-filters-use = uses-each o ((p - 1) * perSquareFilter) (q - 1) _ (λ j. uses-each o perSquareFilter (p - 1) _ (λ i. refl))
+    square-filters-use : uses o (square_filters p q) ≡ (q - 1) * ((p - 1) * per_square_filter)
+    unfolding square_filters square_filter_at uses
+    square-filters-use = uses-each o ((p - 1) * per_square_filter) (q - 1) _ (λ j. uses-each o per_square_filter (p - 1) _ (λ i. refl))
 
-    row-uses : (r : ℕ) → uses o (rowFilters p r) ≡ (p - 1) * perFourFilter
-    unfolding rowFilters fourFilterAt uses
-    row-uses r = uses-each o perFourFilter (p - 1) _ (λ i. refl)
+    row-uses : (r : ℕ) → uses o (row_filters p r) ≡ (p - 1) * per_four_filter
+    unfolding row_filters four_filter_at uses
+    row-uses r = uses-each o per_four_filter (p - 1) _ (λ i. refl)
 
-    column-uses : (c : ℕ) → uses o (columnFilters p q c) ≡ (q - 1) * perFourFilter
-    unfolding columnFilters fourFilterAt uses
-    column-uses c = uses-each o perFourFilter (q - 1) _ (λ j. refl)
+    column-uses : (c : ℕ) → uses o (column_filters p q c) ≡ (q - 1) * per_four_filter
+    unfolding column_filters four_filter_at uses
+    column-uses c = uses-each o per_four_filter (q - 1) _ (λ j. refl)
 
-    edges-use : (n k : ℕ) (line : ℕ → Program) → ((i : ℕ) → uses o (line i) ≡ k) → uses o (alongEdges n line) ≡ 4 * k
-    edges-use n k line h = simp uses-then (omega (arith, h 0, h 1, h (4 * n - 2), h (4 * n - 1)))
+    edges-use : (n k : ℕ) (line : ℕ → Program) → ((i : ℕ) → uses o (line i) ≡ k) → uses o (along_edges n line) ≡ 4 * k
+    edges-use n k line h = simp uses_then (omega (arith, h 0, h 1, h (4 * n - 2), h (4 * n - 1)))
 
-    corners-use : uses o (cornerFilters p q) ≡ 4 * perFourFilter
-    unfolding cornerFilters cornerFilterAt fourFilterAt uses ◌then◌
+    corners-use : uses o (corner_filters p q) ≡ 4 * per_four_filter
+    unfolding corner_filters corner_filter_at four_filter_at uses ◌then◌
     corners-use = omega arith
 
-    filters-use : uses o (filters p q) ≡ (q - 1) * ((p - 1) * perSquareFilter) + (4 * ((p - 1) * perFourFilter) + (4 * ((q - 1) * perFourFilter) + 4 * perFourFilter))
+    filters-use : uses o (filters p q) ≡ (q - 1) * ((p - 1) * per_square_filter) + (4 * ((p - 1) * per_four_filter) + (4 * ((q - 1) * per_four_filter) + 4 * per_four_filter))
     unfolding filters
     filters-use =
-        let rows = alongEdges q (rowFilters p) in
-        let columns = alongEdges p (columnFilters p q) in
+        let rows = along_edges q (row_filters p) in
+        let columns = along_edges p (column_filters p q) in
         omega (
           arith,
-          uses-then o (squareFilters p q) (rows then columns then cornerFilters p q),
-          uses-then o rows (columns then cornerFilters p q),
-          uses-then o columns (cornerFilters p q),
+          uses_then o (square_filters p q) (rows then columns then corner_filters p q),
+          uses_then o rows (columns then corner_filters p q),
+          uses_then o columns (corner_filters p q),
           square-filters-use,
-          edges-use q _ (rowFilters p) row-uses,
-          edges-use p _ (columnFilters p q) column-uses,
+          edges-use q _ (row_filters p) row-uses,
+          edges-use p _ (column_filters p q) column-uses,
           corners-use,
         )
 
-    level-use : (filtered : Bool) → uses o (level filtered p q) ≡ p * q * perCore + cond filtered ((p - 1) * (q - 1) * perSquareFilter + (4 * (p - 1) + 4 * (q - 1) + 4) * perFourFilter) 0
+    level-use : (filtered : Bool) → uses o (level filtered p q) ≡ p * q * per_core + cond filtered ((p - 1) * (q - 1) * per_square_filter + (4 * (p - 1) + 4 * (q - 1) + 4) * per_four_filter) 0
     unfolding level uses
-    level-use true = omega (arith, uses-then o (cores p q) (filters p q), cores-use, filters-use)
-    level-use false = omega (arith, uses-then o (cores p q) end, cores-use)
+    level-use true = omega (arith, uses_then o (cores p q) (filters p q), cores-use, filters-use)
+    level-use false = omega (arith, uses_then o (cores p q) end, cores-use)
 
 -- ---- the operators of a level, none of which uses another of them
 
-abbrev levelOf : ℕ → ℕ → ℕ → LevelUses
-levelOf cores squares fours = record { cores = cores; square_filters = squares; four_filters = fours }
+abbrev level_of : ℕ → ℕ → ℕ → LevelUses
+level_of cores squares fours = record { cores = cores; square_filters = squares; four_filters = fours }
 
-same-uses : {a b c x y z : ℕ} → a ≡ x → b ≡ y → c ≡ z → levelOf a b c ≡ levelOf x y z
+same-uses : {a b c x y z : ℕ} → a ≡ x → b ≡ y → c ≡ z → level_of a b c ≡ level_of x y z
 same-uses e f g = rw (e, f, g)
 
-pub level-claim : LevelClaim
-unfolding uses coreAt squareFilterAt fourFilterAt core coreStages hadamard odd oddOdd rotation scale postHadamard postOddOdd fourFilter squareFilter
-level-claim true p q = same-uses (omega (arith, level-use Core p q true)) (omega (arith, level-use SquareFilter p q true)) (omega (arith, level-use FourFilter p q true))
-level-claim false p q = same-uses (omega (arith, level-use Core p q false)) (omega (arith, level-use SquareFilter p q false)) (omega (arith, level-use FourFilter p q false))
+pub level_claim : LevelClaim
+unfolding uses core_at square_filter_at four_filter_at core core_stages hadamard odd odd_odd rotation scale post_hadamard post_odd_odd four_filter square_filter
+level_claim true p q = same-uses (omega (arith, level-use Core p q true)) (omega (arith, level-use SquareFilter p q true)) (omega (arith, level-use FourFilter p q true))
+level_claim false p q = same-uses (omega (arith, level-use Core p q false)) (omega (arith, level-use SquareFilter p q false)) (omega (arith, level-use FourFilter p q false))
 
 -- ---- how many they are at most
 
 few : {p q a b : ℕ} → Squares p q → a ≤ p → b ≤ q → a * b ≤ 3469200
 few s h k = le_trans (mul-le-mul h k) (mul-le-mul s.most-wide s.most-tall)
 
-pub few-fit : {p q a b : ℕ} → Squares p q → a ≤ p → b ≤ q → Fits w32 (a * b)
-few-fit s h k = record { fits = lt_of_le_of_lt (few s h k) (lit< tt) }
+pub few_fit : {p q a b : ℕ} → Squares p q → a ≤ p → b ≤ q → Fits w32 (a * b)
+few_fit s h k = record { fits = lt_of_le_of_lt (few s h k) (lit< tt) }
 
-few-counts : (filtered : Bool) (p q : ℕ) → Squares p q → Few (levelCounts filtered p q)
-few-counts true p q s = record { cores = few s (omega arith) (omega arith); square-filters = few s (omega arith) (omega arith); four-filters = omega arith }
-few-counts false p q s = record { cores = few s (omega arith) (omega arith); square-filters = omega arith; four-filters = omega arith }
+few_counts : (filtered : Bool) (p q : ℕ) → Squares p q → Few (level_counts filtered p q)
+few_counts true p q s = record { cores = few s (omega arith) (omega arith); square-filters = few s (omega arith) (omega arith); four-filters = omega arith }
+few_counts false p q s = record { cores = few s (omega arith) (omega arith); square-filters = omega arith; four-filters = omega arith }
 
 -- the counts by what a test of `filtered` found
-pub found-counts : (filtered b : Bool) (p q : ℕ) → filtered ≡ b → Squares p q → (levelCounts b p q ≡ usesIn (level filtered p q)) × Few (levelCounts b p q)
-found-counts filtered b p q e s = (sym (level-claim filtered p q ∙ ap (λ (t : Bool). levelCounts t p q) e), few-counts b p q s)
+pub found_counts : (filtered b : Bool) (p q : ℕ) → filtered ≡ b → Squares p q → (level_counts b p q ≡ uses_in (level filtered p q)) × Few (level_counts b p q)
+found_counts filtered b p q e s = (sym (level_claim filtered p q ∙ ap (λ (t : Bool). level_counts t p q) e), few_counts b p q s)

@@ -6,37 +6,37 @@ use Rattle.picture.specs.declared.mode.Mode.{Mode}
 use Rattle.picture.specs.declared.size.Size.{Size}
 use Rattle.picture.specs.Sizes.{macroblocks}
 use Rattle.picture.specs.Modes.{mode_of}
-use Rattle.transform.specs.Transform.{levelOne, levelTwo}
-use Rattle.picture.specs.Numbers.{first_of, settled, shapeChecks}
+use Rattle.transform.specs.Transform.{level_one, level_two}
+use Rattle.picture.specs.Numbers.{first_of, settled, shape_checks}
 use Rattle.forecast.specs.declared.Work.{Work}
 
 -- the uses of an operator in the defined inverse: those in level one and those in level two
-abbrev pub inverseUses : Operator → Mode → Size → ℕ
-inverseUses o mode size = uses o (levelOne mode size) + uses o (levelTwo mode size)
+abbrev pub inverse_uses : Operator → Mode → Size → ℕ
+inverse_uses o mode size = uses o (level_one mode size) + uses o (level_two mode size)
 
 -- the bytes of the planes, and those of the samples
 abbrev pub bytes : Size → ℕ
 bytes size = 1024 * macroblocks size
 
 -- done: how often the inverse uses each operator of a level, and the bytes
-unfoldable pub workBy : Mode → Size → Work
-workBy mode size =
+unfoldable pub work_by : Mode → Size → Work
+work_by mode size =
     record {
       number = 0;
-      cores = inverseUses Core mode size;
-      square_filters = inverseUses SquareFilter mode size;
-      four_filters = inverseUses FourFilter mode size;
+      cores = inverse_uses Core mode size;
+      square_filters = inverse_uses SquareFilter mode size;
+      four_filters = inverse_uses FourFilter mode size;
       plane_bytes = bytes size;
       sample_bytes = bytes size;
     }
 
 -- refused: every figure is zero
-abbrev pub noWork : ℕ → Work
-noWork number = record { number = number; cores = 0; square_filters = 0; four_filters = 0; plane_bytes = 0; sample_bytes = 0 }
+abbrev pub no_work : ℕ → Work
+no_work number = record { number = number; cores = 0; square_filters = 0; four_filters = 0; plane_bytes = 0; sample_bytes = 0 }
 
 -- 1, 2, 3
-unfoldable pub forecastNumber : ℕ → Size → ℕ
-forecastNumber mode size = first_of (shapeChecks mode size)
+unfoldable pub forecast_number : ℕ → Size → ℕ
+forecast_number mode size = first_of (shape_checks mode size)
 
-abbrev pub forecastAnswer : ℕ → Size → Work
-forecastAnswer mode size = let k = forecastNumber mode size in settled k (workBy (mode_of mode) size) (noWork k)
+abbrev pub forecast_answer : ℕ → Size → Work
+forecast_answer mode size = let k = forecast_number mode size in settled k (work_by (mode_of mode) size) (no_work k)

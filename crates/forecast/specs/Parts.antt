@@ -4,8 +4,8 @@ use Rattle.lifting.specs.Program.{Program, Core, SquareFilter, FourFilter}
 use Rattle.lifting.specs.OperatorUses.{uses}
 use Rattle.forecast.specs.declared.LevelUses.{LevelUses}
 
-abbrev pub usesIn : Program → LevelUses
-usesIn p = record { cores = uses Core p; square_filters = uses SquareFilter p; four_filters = uses FourFilter p }
+abbrev pub uses_in : Program → LevelUses
+uses_in p = record { cores = uses Core p; square_filters = uses SquareFilter p; four_filters = uses FourFilter p }
 
 -- squares across and down, at most as many as level two of the largest picture has
 pub record Squares (p q : ℕ) : Type 0 where

@@ -2,8 +2,8 @@
 ghost use Rattle.std.specs.Prelude.{◌≡◌};
 ghost use Rattle.picture.specs.Sizes.{Sized};
 ghost use Rattle.transform.specs.Level.{level};
-ghost use Rattle.forecast.specs.Forecast.{workBy, forecastAnswer};
-ghost use Rattle.forecast.specs.Parts.{usesIn, Squares, Few};
+ghost use Rattle.forecast.specs.Forecast.{work_by, forecast_answer};
+ghost use Rattle.forecast.specs.Parts.{uses_in, Squares, Few};
 
 use picture::checks::{Checked, check_shape};
 use picture::mode::Mode;
@@ -33,7 +33,7 @@ struct LevelUses {
 // A level of p squares across and q down; a square is a macroblock at level one and a block at level two.
 fn level_uses(filtered: bool, p: u32, q: u32) -> LevelUses
     requires { Squares p q }
-    ensures { (result ≡ usesIn (level filtered p q)) × Few result }
+    ensures { (result ≡ uses_in (level filtered p q)) × Few result }
 {
     let cores = p * q;
     if filtered {
@@ -53,7 +53,7 @@ fn level_uses(filtered: bool, p: u32, q: u32) -> LevelUses
 // Both levels together, and the bytes.
 fn work_of(mode: Mode, size: Size) -> Work
     requires { Sized size }
-    ensures { result ≡ workBy mode size }
+    ensures { result ≡ work_by mode size }
 {
     let one = level_uses(mode.first, size.width.0, size.height.0);
     let blocks = size.blocks();
@@ -71,7 +71,7 @@ fn work_of(mode: Mode, size: Size) -> Work
 
 // The work of a picture, or the number of the first check that fails with every figure zero.
 pub fn forecast(mode: u32, size: Size) -> Work
-    ensures { result ≡ forecastAnswer mode size }
+    ensures { result ≡ forecast_answer mode size }
 {
     match check_shape(mode, size) {
         Checked::Refused(number) => Work {

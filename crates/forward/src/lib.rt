@@ -4,9 +4,9 @@ mod told; // told.rt: the levels undone, and whether a sum of them wrapped
 ghost use Rattle.std.specs.Prelude.{◌≡◌, false, ◌++◌, ◌*◌, length};
 ghost use Rattle.picture.specs.Sizes.{Sized, macroblocks};
 ghost use Rattle.picture.specs.Planes.{Lengths, planes};
-ghost use Rattle.transform.specs.Transform.{forwardBy, forward as planesOf};
-ghost use Rattle.transform.specs.Wraps.{forwardWrapsBy, forwardWraps};
-ghost use Rattle.picture.specs.Numbers.{first_of, settled, planeChecks, sampleCheck, forwardNumber};
+ghost use Rattle.transform.specs.Transform.{forward_by, forward as planes_of};
+ghost use Rattle.transform.specs.Wraps.{forward_wraps_by, forward_wraps};
+ghost use Rattle.picture.specs.Numbers.{first_of, settled, plane_checks, sample_check, forward_number};
 
 use crate::told::forward_told;
 use forward_one::undo_level_one;
@@ -29,7 +29,7 @@ pub fn forward_planes(
     requires sized { Sized size }
     requires samples_len { length samples.now ≡ 256 * macroblocks size }
     requires lengths { Lengths (macroblocks size) (planes dc.old low.old high.old) }
-    ensures { planes dc.new low.new high.new ≡ forwardBy mode size samples.now }
+    ensures { planes dc.new low.new high.new ≡ forward_by mode size samples.now }
 {
     undo_level_two(mode.second, size, samples, dc, low, high);
     undo_level_one(mode.first, size, dc, low);
@@ -46,10 +46,10 @@ fn forward_sized(
 ) -> Answer
     requires { Sized size }
     ensures number_value { result.number ≡
-        first_of (sampleCheck (macroblocks size) samples.now ++ planeChecks (macroblocks size) (planes dc.old low.old high.old)) }
-    ensures wrapped_value { result.wrapped ≡ settled result.number (forwardWrapsBy mode size samples.now) false }
+        first_of (sample_check (macroblocks size) samples.now ++ plane_checks (macroblocks size) (planes dc.old low.old high.old)) }
+    ensures wrapped_value { result.wrapped ≡ settled result.number (forward_wraps_by mode size samples.now) false }
     ensures high_after { planes dc.new low.new high.new ≡
-        settled result.number (forwardBy mode size samples.now) (planes dc.old low.old high.old) }
+        settled result.number (forward_by mode size samples.now) (planes dc.old low.old high.old) }
 {
     let n = size.macroblocks();
     if samples.len() != 256 * (n.0 as usize) {
@@ -70,10 +70,10 @@ pub fn forward(
     low: &mut [i32],
     high: &mut [i32],
 ) -> Answer
-    ensures number_value { result.number ≡ forwardNumber mode size samples.now (planes dc.old low.old high.old) }
-    ensures wrapped_value { result.wrapped ≡ settled result.number (forwardWraps mode size samples.now) false }
+    ensures number_value { result.number ≡ forward_number mode size samples.now (planes dc.old low.old high.old) }
+    ensures wrapped_value { result.wrapped ≡ settled result.number (forward_wraps mode size samples.now) false }
     ensures high_after { planes dc.new low.new high.new ≡
-        settled result.number (planesOf mode size samples.now) (planes dc.old low.old high.old) }
+        settled result.number (planes_of mode size samples.now) (planes dc.old low.old high.old) }
 {
     match check_shape(mode, size) {
         Checked::Refused(number) => refused(number),

@@ -2,13 +2,13 @@
 // Where there is one, filters are judged from the numbers that they are undone from, and cores from the coefficients that they were undone to.
 ghost use Rattle.std.specs.Prelude.{◌≡◌, ◌*◌, length};
 ghost use Rattle.lifting.specs.Program.{undo};
-ghost use Rattle.lifting.specs.Wraps.{undoWraps};
+ghost use Rattle.lifting.specs.Wraps.{undo_wraps};
 ghost use Rattle.transform.specs.Level.{level};
 ghost use Rattle.picture.specs.Planes.{Lengths, planes};
-ghost use Rattle.transform.specs.Grids.{secondGrid};
+ghost use Rattle.transform.specs.Grids.{second_grid};
 ghost use Rattle.picture.specs.Sizes.{Sized, macroblocks};
-ghost use Rattle.transform.specs.Transform.{forwardBy};
-ghost use Rattle.transform.specs.Wraps.{forwardWrapsBy};
+ghost use Rattle.transform.specs.Transform.{forward_by};
+ghost use Rattle.transform.specs.Wraps.{forward_wraps_by};
 ghost use Rattle.forward_one_grid.specs.Held.{numbers, over};
 
 use cores_told::{first_cores_wrap, plane_cores_wrap};
@@ -32,9 +32,9 @@ fn level_two_wraps(
     requires sized { Sized size }
     requires samples_len { length samples.now ≡ 256 * macroblocks size }
     requires lengths { Lengths (macroblocks size) (planes dc.now low.now high.now) }
-    requires high_value { secondGrid size.width.0 size.height.0 (numbers size dc.now low.now) high.now ≡
+    requires high_value { second_grid size.width.0 size.height.0 (numbers size dc.now low.now) high.now ≡
         undo (level filtered (4 * size.width.0) (4 * size.height.0)) samples.now }
-    ensures { result ≡ undoWraps (level filtered (4 * size.width.0) (4 * size.height.0)) samples.now }
+    ensures { result ≡ undo_wraps (level filtered (4 * size.width.0) (4 * size.height.0)) samples.now }
 {
     if any_large(samples) {
         if plane_cores_wrap(size, dc, low, high) {
@@ -53,7 +53,7 @@ fn level_one_told(filtered: bool, size: Size, dc: &mut [i32], low: &mut [i32]) -
     requires sized { Sized size }
     requires dc_len { (length dc.old ≡ macroblocks size) × (length low.old ≡ 15 * macroblocks size) }
     ensures low_after { numbers size dc.new low.new ≡ undo (over size (level filtered)) (numbers size dc.old low.old) }
-    ensures value { result ≡ undoWraps (over size (level filtered)) (numbers size dc.old low.old) }
+    ensures value { result ≡ undo_wraps (over size (level filtered)) (numbers size dc.old low.old) }
 {
     let large_dc = any_large(dc);
     let large_low = any_large(low);
@@ -80,8 +80,8 @@ pub fn forward_told(
     requires sized { Sized size }
     requires samples_len { length samples.now ≡ 256 * macroblocks size }
     requires lengths { Lengths (macroblocks size) (planes dc.old low.old high.old) }
-    ensures high_after { planes dc.new low.new high.new ≡ forwardBy mode size samples.now }
-    ensures value { result ≡ forwardWrapsBy mode size samples.now }
+    ensures high_after { planes dc.new low.new high.new ≡ forward_by mode size samples.now }
+    ensures value { result ≡ forward_wraps_by mode size samples.now }
 {
     let large = undo_level_two(mode.second, size, samples, dc, low, high);
     let large_dc = any_large(dc);

@@ -2,7 +2,7 @@
 // the filter into the loop over the lanes, and makes vectors of it, only while nobody else calls the filter.
 ghost use Rattle.std.specs.Prelude.{◌≡◌, ℕ, ◌+◌, ◌*◌, ◌<◌, length};
 ghost use Rattle.lifting.specs.Program.{undo, get};
-ghost use Rattle.figures.specs.Figures.{squareFilter};
+ghost use Rattle.figures.specs.Figures.{square_filter};
 ghost use Rattle.transform.specs.Level.{square};
 ghost use Rattle.lanes.specs.Lanes.{lane_of, Placed};
 ghost use Rattle.forward_four_windows.specs.Windows.{Windows};
@@ -16,7 +16,7 @@ fn undo_lanes(a: &[i32], b: &[i32], c: &[i32], d: &[i32], out: &mut [i32])
     requires a_len { (length a.now ≡ 16) × (length b.now ≡ 16) × (length c.now ≡ 16) × (length d.now ≡ 16) }
     requires out_len { length out.old ≡ 64 }
     ensures { (l : ℕ) → l < 4 → get (square 16 (4 * l)) out.new ≡
-        undo squareFilter (lane_of a.now b.now c.now d.now l) }
+        undo square_filter (lane_of a.now b.now c.now d.now l) }
 {
     for l in 0..4 {
         put_square(

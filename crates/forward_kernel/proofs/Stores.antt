@@ -10,7 +10,7 @@ use lib.ListN.{length, get_or, set, length-set}
 use lib.Seq.{get_or-set_same, get_or-set_other}
 use lib.IntN.{ℤ, pos}
 use lib.Signed.{mag}
-use Rattle.lifting.specs.Program.{at, get, put, undo, undoBy}
+use Rattle.lifting.specs.Program.{at, get, put, undo, undo_by}
 use Rattle.lifting.proofs.Bits.{back}
 use Rattle.figures.specs.Block.{four, flat}
 use Rattle.figures.specs.Figures.{core}
@@ -19,7 +19,7 @@ use Rattle.transform.specs.Level.{strip, square}
 use Rattle.picture.specs.Table.{table}
 use Rattle.transform.specs.Grids.{coefficients}
 use Rattle.picture.proofs.Table.{at_table, table_is, table_same}
-use Rattle.forward_kernel.specs.Placed.{Placed, InLane, Undone, blockIn, undoneAt}
+use Rattle.forward_kernel.specs.Placed.{Placed, InLane, Undone, block_in, undone_at}
 
 -- two blocks whose numbers are the same
 pub same_block : {x y : ℤ} (f g : ℕ → ℤ) → x ≡ y → ((k : ℕ) → k < 15 → f k ≡ g k) → table 16 (coefficients x f) ≡ table 16 (coefficients y g)
@@ -37,19 +37,19 @@ block-is {x} f xs n e h = table_is 16 (coefficients x f) xs n entry
     entry (suc k) l = h k (omega arith) ∙ ap (at xs) (add-one k)
 
 -- number k of block t in two lists
-pub at_block : (zeros rest : List ℤ) (t k : ℕ) → k < 16 → at (blockIn zeros rest t) k ≡ coefficients (at zeros t) (λ i. at rest (15 * t + i)) k
-unfolding blockIn
+pub at_block : (zeros rest : List ℤ) (t k : ℕ) → k < 16 → at (block_in zeros rest t) k ≡ coefficients (at zeros t) (λ i. at rest (15 * t + i)) k
+unfolding block_in
 at_block zeros rest t k h = at_table 16 (coefficients (at zeros t) (λ i. at rest (15 * t + i))) k h
 
-pub length-undone : (w i : ℕ) (grid : List ℤ) → length (undoneAt w i grid) ≡ 16
-unfolding undoneAt undoBy core get
-length-undone w i grid = refl
+pub length_undone : (w i : ℕ) (grid : List ℤ) → length (undone_at w i grid) ≡ 16
+unfolding undone_at undo_by core get
+length_undone w i grid = refl
 
-pub placed-none : (i : ℕ) (f : ℕ → ℤ) (v : List ℤ) → Placed i 0 f v v
-placed-none i f v = record { len = refl; own = λ k h. absurd (omega arith); below = λ j h. refl; above = λ j h. refl }
+pub placed_none : (i : ℕ) (f : ℕ → ℤ) (v : List ℤ) → Placed i 0 f v v
+placed_none i f v = record { len = refl; own = λ k h. absurd (omega arith); below = λ j h. refl; above = λ j h. refl }
 
-pub placed-next : (i n : ℕ) (f : ℕ → ℤ) {old mid : List ℤ} (j : ℕ) {x : ℤ} → j ≡ i + n → i + n < length old → x ≡ f n → Placed i n f old mid → Placed i (n + 1) f old (set mid j x)
-placed-next i n f {old} {mid} j {x} e room q p = record {
+pub placed_next : (i n : ℕ) (f : ℕ → ℤ) {old mid : List ℤ} (j : ℕ) {x : ℤ} → j ≡ i + n → i + n < length old → x ≡ f n → Placed i n f old mid → Placed i (n + 1) f old (set mid j x)
+placed_next i n f {old} {mid} j {x} e room q p = record {
   len = length-set mid j x ∙ p.len;
   own = λ k h. by_cases (ℕ_discrete k n)
       (λ y. ap (at (set mid j x)) (omega (arith, y)) ∙ get_or-set_same mid j x (pos 0) (omega (arith, p.len)) ∙ q ∙ ap f (sym y))
@@ -58,24 +58,24 @@ placed-next i n f {old} {mid} j {x} e room q p = record {
   above = λ k h. get_or-set_other mid j k x (pos 0) (λ y. absurd (omega (arith, y))) ∙ p.above k (omega arith);
 }
 
-pub placed-up-to : {i : ℕ} (n m : ℕ) {f : ℕ → ℤ} {old new : List ℤ} → n ≡ m → Placed i n f old new → Placed i m f old new
-placed-up-to {i} n m {f} {old} {new} e p = subst (λ (k : ℕ). Placed i k f old new) e p
+pub placed_up_to : {i : ℕ} (n m : ℕ) {f : ℕ → ℤ} {old new : List ℤ} → n ≡ m → Placed i n f old new → Placed i m f old new
+placed_up_to {i} n m {f} {old} {new} e p = subst (λ (k : ℕ). Placed i k f old new) e p
 
 -- four numbers in a line
-pub placed-four : (i : ℕ) (xs old : List ℤ) → i + 3 < length old → Placed i 4 (at xs) old (put (strip 1 i) (four xs) old)
+pub placed_four : (i : ℕ) (xs old : List ℤ) → i + 3 < length old → Placed i 4 (at xs) old (put (strip 1 i) (four xs) old)
 unfolding put
-placed-four i xs old room =
-    placed-next i 3 (at xs) (i + 1 + 1 + 1) (omega arith) (omega arith) refl
-    (placed-next i 2 (at xs) (i + 1 + 1) (omega arith) (omega arith) refl (placed-next i 1 (at xs) (i + 1) refl (omega arith) refl (placed-next i 0 (at xs) i (omega arith) (omega arith) refl (placed-none i (at xs) old))))
+placed_four i xs old room =
+    placed_next i 3 (at xs) (i + 1 + 1 + 1) (omega arith) (omega arith) refl
+    (placed_next i 2 (at xs) (i + 1 + 1) (omega arith) (omega arith) refl (placed_next i 1 (at xs) (i + 1) refl (omega arith) refl (placed_next i 0 (at xs) i (omega arith) (omega arith) refl (placed_none i (at xs) old))))
 
 -- a list that is known to be another with four numbers stored
-pub four-placed : (i : ℕ) (xs old : List ℤ) {new : List ℤ} → i + 3 < length old → new ≡ put (strip 1 i) (four xs) old → Placed i 4 (at xs) old new
-four-placed i xs old room e = rw e (placed-four i xs old room)
+pub four_placed : (i : ℕ) (xs old : List ℤ) {new : List ℤ} → i + 3 < length old → new ≡ put (strip 1 i) (four xs) old → Placed i 4 (at xs) old new
+four_placed i xs old room e = rw e (placed_four i xs old room)
 
 -- numbers after numbers, some of the first ones written over
-pub placed-after : (i n j m t : ℕ) (f g h : ℕ → ℤ) {old mid new : List ℤ} → j ≤ n → n ≤ j + m → t ≡ j + m → ((k : ℕ) → k < j → f k ≡ h k) → ((k : ℕ) → k < m → g k ≡ h (j + k))
+pub placed_after : (i n j m t : ℕ) (f g h : ℕ → ℤ) {old mid new : List ℤ} → j ≤ n → n ≤ j + m → t ≡ j + m → ((k : ℕ) → k < j → f k ≡ h k) → ((k : ℕ) → k < m → g k ≡ h (j + k))
     → Placed i n f old mid → Placed (i + j) m g mid new → Placed i t h old new
-placed-after i n j m t f g h {old} {mid} {new} a b e u v p q = record {
+placed_after i n j m t f g h {old} {mid} {new} a b e u v p q = record {
   len = q.len ∙ p.len;
   own = λ k l. by_cases (dec_lt k j) (λ y. q.below (i + k) (omega (arith, y)) ∙ p.own k (omega (arith, y)) ∙ u k y)
       (λ o. ap (at new) (omega (arith, o)) ∙ q.own (k - j) (omega (arith, o)) ∙ v (k - j) (omega (arith, o)) ∙ ap h (omega (arith, o)));
@@ -101,34 +101,34 @@ four-at i x v e =
 -- ---- a lane
 
 -- from its lane to the plane: four fours, of which the second begins with the last number of the first
-pub lane-moved : (l i : ℕ) (out rest : List ℤ) (a b c d : List ℤ) {u v w z : List ℤ} → i + 14 < length rest
+pub lane_moved : (l i : ℕ) (out rest : List ℤ) (a b c d : List ℤ) {u v w z : List ℤ} → i + 14 < length rest
     → four a ≡ get (strip 1 (4 * l)) out → four b ≡ get (strip 1 (16 + 4 * l)) out → four c ≡ get (strip 1 (32 + 4 * l)) out → four d ≡ get (strip 1 (48 + 4 * l)) out
     → u ≡ put (strip 1 i) (four a) rest → v ≡ put (strip 1 (i + 3)) (four b) u → w ≡ put (strip 1 (i + 7)) (four c) v → z ≡ put (strip 1 (i + 11)) (four d) w
     → (block : List ℤ) → InLane l block out → Placed i 15 (λ k. at block (k + 1)) rest z
-lane-moved l i out rest a b c d {u} {v} {w} {z} room ra rb rc rd sa sb sc sd block h =
+lane_moved l i out rest a b c d {u} {v} {w} {z} room ra rb rc rd sa sb sc sd block h =
     let f : ℕ → ℤ = λ k. at block (k + 1) in
-    let p = four-placed i a rest (omega arith) sa in
-    let q = placed-after i 4 3 4 7 (at a) (at b) f (omega arith) (omega arith) refl (λ k o. four-at _ a out ra k (omega arith) ∙ h.first k (omega arith))
-    (λ k o. four-at _ b out rb k o ∙ h.second k o ∙ ap (at block) (omega arith)) p (four-placed (i + 3) b u (omega (arith, p.len)) sb) in
-    let r = placed-after i 7 7 4 11 f (at c) f (omega arith) (omega arith) refl (λ k o. refl)
-    (λ k o. four-at _ c out rc k o ∙ h.third k o ∙ ap (at block) (omega arith)) q (four-placed (i + 7) c v (omega (arith, q.len)) sc) in
-    placed-after i 11 11 4 15 f (at d) f (omega arith) (omega arith) refl (λ k o. refl)
-    (λ k o. four-at _ d out rd k o ∙ h.fourth k o ∙ ap (at block) (omega arith)) r (four-placed (i + 11) d w (omega (arith, r.len)) sd)
+    let p = four_placed i a rest (omega arith) sa in
+    let q = placed_after i 4 3 4 7 (at a) (at b) f (omega arith) (omega arith) refl (λ k o. four-at _ a out ra k (omega arith) ∙ h.first k (omega arith))
+    (λ k o. four-at _ b out rb k o ∙ h.second k o ∙ ap (at block) (omega arith)) p (four_placed (i + 3) b u (omega (arith, p.len)) sb) in
+    let r = placed_after i 7 7 4 11 f (at c) f (omega arith) (omega arith) refl (λ k o. refl)
+    (λ k o. four-at _ c out rc k o ∙ h.third k o ∙ ap (at block) (omega arith)) q (four_placed (i + 7) c v (omega (arith, q.len)) sc) in
+    placed_after i 11 11 4 15 f (at d) f (omega arith) (omega arith) refl (λ k o. refl)
+    (λ k o. four-at _ d out rd k o ∙ h.fourth k o ∙ ap (at block) (omega arith)) r (four_placed (i + 11) d w (omega (arith, r.len)) sd)
 
 -- to its lane
 pub record Laned (l : ℕ) (block old new : List ℤ) : Type 0 where
   pub holds : InLane l block new
   pub others : (i : ℕ) → (i % 16 / 4 ≡ l → ⊥) → at new i ≡ at old i
 
-pub lane-stored : (l : ℕ) (block out : List ℤ) (a b c d : List ℤ) {u v w z : List ℤ} → l < 4 → length out ≡ 64
+pub lane_stored : (l : ℕ) (block out : List ℤ) (a b c d : List ℤ) {u v w z : List ℤ} → l < 4 → length out ≡ 64
     → ((k : ℕ) → k < 4 → at a k ≡ at block (k + 1)) → ((k : ℕ) → k < 4 → at b k ≡ at block (k + 4)) → ((k : ℕ) → k < 4 → at c k ≡ at block (k + 8)) → ((k : ℕ) → k < 4 → at d k ≡ at block (k + 12))
     → u ≡ put (strip 1 (4 * l)) (four a) out → v ≡ put (strip 1 (16 + 4 * l)) (four b) u → w ≡ put (strip 1 (32 + 4 * l)) (four c) v → z ≡ put (strip 1 (48 + 4 * l)) (four d) w
     → Laned l block out z
-lane-stored l block out a b c d {u} {v} {w} {z} low room fa fb fc fd sa sb sc sd =
-    let p = four-placed (4 * l) a out (omega arith) sa in
-    let q = four-placed (16 + 4 * l) b u (omega (arith, p.len)) sb in
-    let r = four-placed (32 + 4 * l) c v (omega (arith, p.len, q.len)) sc in
-    let s = four-placed (48 + 4 * l) d w (omega (arith, p.len, q.len, r.len)) sd in
+lane_stored l block out a b c d {u} {v} {w} {z} low room fa fb fc fd sa sb sc sd =
+    let p = four_placed (4 * l) a out (omega arith) sa in
+    let q = four_placed (16 + 4 * l) b u (omega (arith, p.len)) sb in
+    let r = four_placed (32 + 4 * l) c v (omega (arith, p.len, q.len)) sc in
+    let s = four_placed (48 + 4 * l) d w (omega (arith, p.len, q.len, r.len)) sd in
     record {
       holds = record {
         first = λ k h. s.below (4 * l + k) (omega arith) ∙ r.below (4 * l + k) (omega arith) ∙ q.below (4 * l + k) (omega arith) ∙ p.own k h ∙ fa k h;
@@ -164,9 +164,9 @@ module _ (b : List (List ℤ)) where
   unfolding flat
   fourth-row = below-four (λ k. at (row_of 3) k ≡ at (flat b) (k + 12)) refl refl refl refl
 
-  pub zero-stored : (l : ℕ) (zeros : List ℤ) → l < length zeros → mag (at (row_of 0) 0) < 2147483648 → Placed l 1 (at (flat b)) zeros (set zeros l (kept (at (row_of 0) 0)))
+  pub zero_stored : (l : ℕ) (zeros : List ℤ) → l < length zeros → mag (at (row_of 0) 0) < 2147483648 → Placed l 1 (at (flat b)) zeros (set zeros l (kept (at (row_of 0) 0)))
   unfolding flat
-  zero-stored l zeros room h = placed-next l 0 (at (flat b)) l (omega arith) (omega arith) (back h) (placed-none l (at (flat b)) zeros)
+  zero_stored l zeros room h = placed_next l 0 (at (flat b)) l (omega arith) (omega arith) (back h) (placed_none l (at (flat b)) zeros)
 
 -- ---- lane after lane
 
@@ -191,13 +191,13 @@ lanes_next block n x {zeros} {out} {zeros'} {out'} low e h z own others l m = by
     there o = let u = h l (omega (arith, o)) in record { zero = z.below l (omega (arith, o)) ∙ u.zero; rest = lane-kept l (omega (arith, o)) (λ i y. others i (λ w. o (sym y ∙ w))) u.rest }
 
 -- four blocks moved one after another
-pub blocks-placed : (block : ℕ → List ℤ) (i : ℕ) {v w x y z : List ℤ} → Placed i 15 (λ k. at (block 0) (k + 1)) v w → Placed (i + 15) 15 (λ k. at (block 1) (k + 1)) w x
+pub blocks_placed : (block : ℕ → List ℤ) (i : ℕ) {v w x y z : List ℤ} → Placed i 15 (λ k. at (block 0) (k + 1)) v w → Placed (i + 15) 15 (λ k. at (block 1) (k + 1)) w x
     → Placed (i + 30) 15 (λ k. at (block 2) (k + 1)) x y → Placed (i + 45) 15 (λ k. at (block 3) (k + 1)) y z → Placed i 60 (λ k. at (block (k / 15)) (k % 15 + 1)) v z
-blocks-placed block i a b c d =
+blocks_placed block i a b c d =
     let f : ℕ → ℤ = λ k. at (block (k / 15)) (k % 15 + 1) in
-    let e = placed-after i 15 15 15 30 (λ k. at (block 0) (k + 1)) (λ k. at (block 1) (k + 1)) f (omega arith) (omega arith) refl (λ k h. number 0 k k h (omega arith) (omega arith)) (λ k h. number 1 k (15 + k) h (omega arith) (omega arith)) a b in
-    let g = placed-after i 30 30 15 45 f (λ k. at (block 2) (k + 1)) f (omega arith) (omega arith) refl (λ k h. refl) (λ k h. number 2 k (30 + k) h (omega arith) (omega arith)) e c in
-    placed-after i 45 45 15 60 f (λ k. at (block 3) (k + 1)) f (omega arith) (omega arith) refl (λ k h. refl) (λ k h. number 3 k (45 + k) h (omega arith) (omega arith)) g d
+    let e = placed_after i 15 15 15 30 (λ k. at (block 0) (k + 1)) (λ k. at (block 1) (k + 1)) f (omega arith) (omega arith) refl (λ k h. number 0 k k h (omega arith) (omega arith)) (λ k h. number 1 k (15 + k) h (omega arith) (omega arith)) a b in
+    let g = placed_after i 30 30 15 45 f (λ k. at (block 2) (k + 1)) f (omega arith) (omega arith) refl (λ k h. refl) (λ k h. number 2 k (30 + k) h (omega arith) (omega arith)) e c in
+    placed_after i 45 45 15 60 f (λ k. at (block 3) (k + 1)) f (omega arith) (omega arith) refl (λ k h. refl) (λ k h. number 3 k (45 + k) h (omega arith) (omega arith)) g d
   where
     number : (n k j : ℕ) → k < 15 → n ≡ j / 15 → k + 1 ≡ j % 15 + 1 → at (block n) (k + 1) ≡ at (block (j / 15)) (j % 15 + 1)
     number n k j h e f = rw (e, f)
@@ -206,10 +206,10 @@ blocks-placed block i a b c d =
 
 module _ (grid : List ℤ) (w i : ℕ) (lane : ℕ → List ℤ) (zeros out : List ℤ) (held : (l : ℕ) → l < 4 → lane l ≡ get (square w (i + 4 * l)) grid)
     (undone : (l : ℕ) → l < 4 → Undone l (lane l) zeros out) where
-  pub zeros_of : (l : ℕ) → l < 4 → at zeros l ≡ at (undoneAt w (i + 4 * l) grid) 0
-  unfolding undoneAt
+  pub zeros_of : (l : ℕ) → l < 4 → at zeros l ≡ at (undone_at w (i + 4 * l) grid) 0
+  unfolding undone_at
   zeros_of l h = (undone l h).zero ∙ ap (λ b. at (undo core b) 0) (held l h)
 
-  pub lanes-of : (l : ℕ) → l < 4 → InLane l (undoneAt w (i + 4 * l) grid) out
-  unfolding undoneAt
-  lanes-of l h = subst (λ b. InLane l (undo core b) out) (held l h) (undone l h).rest
+  pub lanes_of : (l : ℕ) → l < 4 → InLane l (undone_at w (i + 4 * l) grid) out
+  unfolding undone_at
+  lanes_of l h = subst (λ b. InLane l (undo core b) out) (held l h) (undone l h).rest

@@ -21,12 +21,12 @@ pub record InLane (l : ℕ) (block out : List ℤ) : Type 0 where
   pub fourth : (k : ℕ) → k < 4 → at out (48 + 4 * l + k) ≡ at block (k + 12)
 
 -- block t: its coefficient 0 is number t of one list, and its coefficients 1 to 15 are the t-th fifteen of another
-unfoldable pub blockIn : List ℤ → List ℤ → ℕ → List ℤ
-blockIn zeros rest t = table 16 (coefficients (at zeros t) (λ k. at rest (15 * t + k)))
+unfoldable pub block_in : List ℤ → List ℤ → ℕ → List ℤ
+block_in zeros rest t = table 16 (coefficients (at zeros t) (λ k. at rest (15 * t + k)))
 
 -- the block whose first number stands at place i of a grid of w columns, its core undone
-unfoldable pub undoneAt : ℕ → ℕ → List ℤ → List ℤ
-undoneAt w i grid = undo core (get (square w i) grid)
+unfoldable pub undone_at : ℕ → ℕ → List ℤ → List ℤ
+undone_at w i grid = undo core (get (square w i) grid)
 
 -- block l, its core undone: coefficient 0 among the zeros, the others in its lane
 pub record Undone (l : ℕ) (block zeros out : List ℤ) : Type 0 where

@@ -3,7 +3,7 @@ ghost use Rattle.std.specs.Prelude.{◌≡◌, List, ℕ, ◌+◌, ◌*◌, ◌/
 ghost use Rattle.lifting.specs.Program.{at as number};
 ghost use Rattle.figures.specs.Block.{flat};
 ghost use Rattle.lanes.specs.Lanes.{lane_of};
-ghost use Rattle.forward_kernel.specs.Placed.{Placed, InLane, Undone, undoneAt};
+ghost use Rattle.forward_kernel.specs.Placed.{Placed, InLane, Undone, undone_at};
 
 use core_transform::undo_core;
 use grid::{get_four, put_four};
@@ -66,8 +66,8 @@ fn move_lanes(out: &[i32], rest: &mut [i32], from: usize)
 pub fn undo_four_cores(grid: &[i32], w: usize, at: usize, rest: &mut [i32], from: usize) -> [i32; 4]
     requires w_in_bounds { at + w + w + w + 15 < length grid.now }
     requires from_in_bounds { from + 59 < length rest.old }
-    ensures by_index { (l : ℕ) → l < 4 → number result l ≡ number (undoneAt w (at + 4 * l) grid.now) 0 }
-    ensures placed { Placed from 60 (λ k. number (undoneAt w (at + 4 * (k / 15)) grid.now) (k % 15 + 1)) rest.old rest.new }
+    ensures by_index { (l : ℕ) → l < 4 → number result l ≡ number (undone_at w (at + 4 * l) grid.now) 0 }
+    ensures placed { Placed from 60 (λ k. number (undone_at w (at + 4 * (k / 15)) grid.now) (k % 15 + 1)) rest.old rest.new }
 {
     let mut a = [0i32; 16];
     hold(grid, 4, at, &mut a);

@@ -13,19 +13,19 @@ use Rattle.figures.specs.Figures.{core}
 use Rattle.transform.specs.Level.{square}
 use Rattle.transform.specs.Grids.{coefficients}
 use Rattle.picture.proofs.Table.{length-table}
-use Rattle.forward_kernel.specs.Placed.{Placed, undoneAt, blockIn}
-use Rattle.forward_kernel.proofs.Stores.{same_block, block-is, length-undone}
+use Rattle.forward_kernel.specs.Placed.{Placed, undone_at, block_in}
+use Rattle.forward_kernel.proofs.Stores.{same_block, block-is, length_undone}
 use Rattle.forward_one_cores.specs.Blocks.{Replaced}
 
-pub length-block : (dc low : List ℤ) (t : ℕ) → length (blockIn dc low t) ≡ 16
-unfolding blockIn
+pub length-block : (dc low : List ℤ) (t : ℕ) → length (block_in dc low t) ≡ 16
+unfolding block_in
 length-block dc low t = length-table 16 _
 
 -- a block of two lists becomes block t of two others
-pub block-moved : (zeros rest dc : List ℤ) (l t : ℕ) {low dc' low' : List ℤ} → t < length dc → dc' ≡ set dc t (at zeros l) → Placed (15 * t) 15 (λ k. at rest (15 * l + k)) low low'
-    → Replaced t 1 (λ s. blockIn zeros rest l) (blockIn dc low) (blockIn dc' low')
-unfolding blockIn
-block-moved zeros rest dc l t {low} {dc'} {low'} room e p = record {
+pub block_moved : (zeros rest dc : List ℤ) (l t : ℕ) {low dc' low' : List ℤ} → t < length dc → dc' ≡ set dc t (at zeros l) → Placed (15 * t) 15 (λ k. at rest (15 * l + k)) low low'
+    → Replaced t 1 (λ s. block_in zeros rest l) (block_in dc low) (block_in dc' low')
+unfolding block_in
+block_moved zeros rest dc l t {low} {dc'} {low'} room e p = record {
   own = λ s h k.
       let y : s ≡ t = omega arith in
       same_block _ _ (ap (at dc') y ∙ ap (λ v. at v t) e ∙ get_or-set_same dc t (at zeros l) (pos 0) room) (λ k m. ap (λ (r : ℕ). at low' (15 * r + k)) y ∙ p.own k m);
@@ -38,41 +38,41 @@ block-moved zeros rest dc l t {low} {dc'} {low'} room e p = record {
 
 -- ---- blocks after blocks
 
-pub replaced-none : (t : ℕ) (f old : ℕ → List ℤ) → Replaced t 0 f old old
-replaced-none t f old = record { own = λ s h k. absurd (omega arith); below = λ s h. refl; above = λ s h. refl }
+pub replaced_none : (t : ℕ) (f old : ℕ → List ℤ) → Replaced t 0 f old old
+replaced_none t f old = record { own = λ s h k. absurd (omega arith); below = λ s h. refl; above = λ s h. refl }
 
-pub replaced-as : {t n : ℕ} {f old new : ℕ → List ℤ} (u m : ℕ) (g : ℕ → List ℤ) → t ≡ u → n ≡ m → ((s : ℕ) → t ≤ s → s < t + n → f s ≡ g s) → Replaced t n f old new → Replaced u m g old new
-replaced-as u m g a b e r =
+pub replaced_as : {t n : ℕ} {f old new : ℕ → List ℤ} (u m : ℕ) (g : ℕ → List ℤ) → t ≡ u → n ≡ m → ((s : ℕ) → t ≤ s → s < t + n → f s ≡ g s) → Replaced t n f old new → Replaced u m g old new
+replaced_as u m g a b e r =
     record {
       own = λ s h k. r.own s (omega (arith, h)) (omega (arith, k)) ∙ e s (omega (arith, h)) (omega (arith, k));
       below = λ s h. r.below s (omega (arith, h));
       above = λ s h. r.above s (omega (arith, h));
     }
 
-pub replaced-more : {t n m : ℕ} {f old mid new : ℕ → List ℤ} → Replaced t n f old mid → Replaced (t + n) m f mid new → Replaced t (n + m) f old new
-replaced-more {t} {n} {m} p q = record {
+pub replaced_more : {t n m : ℕ} {f old mid new : ℕ → List ℤ} → Replaced t n f old mid → Replaced (t + n) m f mid new → Replaced t (n + m) f old new
+replaced_more {t} {n} {m} p q = record {
   own = λ s h k. by_cases (dec_lt s (t + n)) (λ l. q.below s l ∙ p.own s h l) (λ l. q.own s (omega (arith, l)) (omega arith));
   below = λ s h. q.below s (omega arith) ∙ p.below s h;
   above = λ s h. q.above s (omega arith) ∙ p.above s (omega arith);
 }
 
 -- the same where each is made of what it was: nothing before touched it
-pub replaced-in-place : (g : List ℤ → List ℤ) {t n m : ℕ} {old mid new : ℕ → List ℤ} → Replaced t n (λ s. g (old s)) old mid → Replaced (t + n) m (λ s. g (mid s)) mid new
+pub replaced_in_place : (g : List ℤ → List ℤ) {t n m : ℕ} {old mid new : ℕ → List ℤ} → Replaced t n (λ s. g (old s)) old mid → Replaced (t + n) m (λ s. g (mid s)) mid new
     → Replaced t (n + m) (λ s. g (old s)) old new
-replaced-in-place g {t} {n} {m} {old} p q = replaced-more p (replaced-as (t + n) m (λ s. g (old s)) refl refl (λ s h k. ap g (p.above s h)) q)
+replaced_in_place g {t} {n} {m} {old} p q = replaced_more p (replaced_as (t + n) m (λ s. g (old s)) refl refl (λ s h k. ap g (p.above s h)) q)
 
 -- ---- four blocks undone together
 
 -- block l of what comes out, its coefficients 0 and 1 to 15 in two lists
-pub lane-undone : (held zeros old rest x : List ℤ) (l : ℕ) → l < 4 → ((l : ℕ) → l < 4 → at zeros l ≡ at (undoneAt 16 (0 + 4 * l) held) 0)
-    → Placed 0 60 (λ k. at (undoneAt 16 (0 + 4 * (k / 15)) held) (k % 15 + 1)) old rest → get (square 16 (4 * l)) held ≡ x → blockIn zeros rest l ≡ undo core x
-unfolding blockIn undoneAt
-lane-undone held zeros old rest x l h z p e = block-is _ (undoneAt 16 (0 + 4 * l) held) (length-undone 16 (0 + 4 * l) held) (z l h) entry ∙ ap (λ (i : ℕ). undo core (get (square 16 i) held)) from_zero ∙ ap (undo core) e
+pub lane_undone : (held zeros old rest x : List ℤ) (l : ℕ) → l < 4 → ((l : ℕ) → l < 4 → at zeros l ≡ at (undone_at 16 (0 + 4 * l) held) 0)
+    → Placed 0 60 (λ k. at (undone_at 16 (0 + 4 * (k / 15)) held) (k % 15 + 1)) old rest → get (square 16 (4 * l)) held ≡ x → block_in zeros rest l ≡ undo core x
+unfolding block_in undone_at
+lane_undone held zeros old rest x l h z p e = block-is _ (undone_at 16 (0 + 4 * l) held) (length_undone 16 (0 + 4 * l) held) (z l h) entry ∙ ap (λ (i : ℕ). undo core (get (square 16 i) held)) from_zero ∙ ap (undo core) e
   where
     from_zero : 0 + 4 * l ≡ 4 * l
     from_zero = omega arith
 
-    entry : (k : ℕ) → k < 15 → at rest (15 * l + k) ≡ at (undoneAt 16 (0 + 4 * l) held) (k + 1)
+    entry : (k : ℕ) → k < 15 → at rest (15 * l + k) ≡ at (undone_at 16 (0 + 4 * l) held) (k + 1)
     entry k m =
         ap (at rest) (omega arith) ∙ p.own (15 * l + k) (omega arith)
-        ∙ ap₂ (λ (i j : ℕ). at (undoneAt 16 (0 + 4 * i) held) (j + 1)) (omega arith) (omega arith)
+        ∙ ap₂ (λ (i j : ℕ). at (undone_at 16 (0 + 4 * i) held) (j + 1)) (omega arith) (omega arith)

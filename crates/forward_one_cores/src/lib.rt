@@ -5,7 +5,7 @@ ghost use Rattle.figures.specs.Block.{flat};
 ghost use Rattle.figures.specs.Figures.{core};
 ghost use Rattle.transform.specs.Level.{square, cores};
 ghost use Rattle.forward_one_grid.specs.Held.{numbers, over, Held};
-ghost use Rattle.forward_kernel.specs.Placed.{blockIn};
+ghost use Rattle.forward_kernel.specs.Placed.{block_in};
 ghost use Rattle.forward_one_cores.specs.Blocks.{Room, Replaced};
 
 use forward_kernel::undo_four_cores;
@@ -16,7 +16,7 @@ use picture::size::Size;
 // Macroblock t, whose low-pass numbers stand from `from` on.
 fn get_block(dc: &[i32], low: &[i32], t: usize, from: usize) -> [[i32; 4]; 4]
     requires { Room (t + 1) dc.now low.now × (from ≡ 15 * t) }
-    ensures { flat result ≡ blockIn dc.now low.now t }
+    ensures { flat result ≡ block_in dc.now low.now t }
 {
     let top = [dc[t], low[from], low[from + 1], low[from + 2]];
     let second = get_four(low, 1, from + 3);
@@ -29,7 +29,7 @@ fn get_block(dc: &[i32], low: &[i32], t: usize, from: usize) -> [[i32; 4]; 4]
 fn get_blocks(dc: &[i32], low: &[i32], t: usize, from: usize, n: usize, held: &mut [i32])
     requires room { Room (t + n) dc.now low.now × (from ≡ 15 * t) }
     requires n_bound { (n ≤ 4) × (length held.old ≡ 64) }
-    ensures { (l : ℕ) → l < n → get (square 16 (4 * l)) held.new ≡ blockIn dc.now low.now (t + l) }
+    ensures { (l : ℕ) → l < n → get (square 16 (4 * l)) held.new ≡ block_in dc.now low.now (t + l) }
 {
     for l in 0..n {
         put_square(held, 16, 4 * l, get_block(dc, low, t + l, from + 15 * l));
@@ -49,7 +49,7 @@ fn move_block(
 )
     requires room { Room (l + 1) zeros.now rest.now × (from ≡ 15 * l) }
     requires room_2 { Room (t + 1) dc.old low.old × (to ≡ 15 * t) }
-    ensures { Replaced t 1 (λ s. blockIn zeros.now rest.now l) (blockIn dc.old low.old) (blockIn dc.new low.new) }
+    ensures { Replaced t 1 (λ s. block_in zeros.now rest.now l) (block_in dc.old low.old) (block_in dc.new low.new) }
 {
     dc[t] = zeros[l];
     for k in 0..15 {
@@ -69,7 +69,7 @@ fn move_blocks(
 )
     requires room { Room n zeros.now rest.now }
     requires room_2 { Room (t + n) dc.old low.old × (to ≡ 15 * t) }
-    ensures { Replaced t n (λ s. blockIn zeros.now rest.now (s - t)) (blockIn dc.old low.old) (blockIn dc.new low.new) }
+    ensures { Replaced t n (λ s. block_in zeros.now rest.now (s - t)) (block_in dc.old low.old) (block_in dc.new low.new) }
 {
     for l in 0..n {
         let from = 15 * l;
@@ -81,7 +81,7 @@ fn move_blocks(
 fn undo_group(dc: &mut [i32], low: &mut [i32], t: usize, from: usize, n: usize)
     requires room { Room (t + n) dc.old low.old × (from ≡ 15 * t) }
     requires n_bound { n ≤ 4 }
-    ensures { Replaced t n (λ s. undo core (blockIn dc.old low.old s)) (blockIn dc.old low.old) (blockIn dc.new low.new) }
+    ensures { Replaced t n (λ s. undo core (block_in dc.old low.old s)) (block_in dc.old low.old) (block_in dc.new low.new) }
 {
     let mut held = [0i32; 64];
     get_blocks(dc, low, t, from, n, &mut held);

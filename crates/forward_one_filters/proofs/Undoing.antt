@@ -5,7 +5,7 @@ use mathlib.Core.List.{List}
 use native.Mathlib.Omega.{arith}
 use lib.ListN.{length}
 use lib.IntN.{ℤ}
-use Rattle.lifting.specs.Program.{Program, Operator, end, apply, get, put, undo, each, undoBy}
+use Rattle.lifting.specs.Program.{Program, Operator, end, apply, get, put, undo, each, undo_by}
 use Rattle.lifting.proofs.Compose.{undo-each}
 use Rattle.picture.specs.declared.size.Size.{Size}
 use Rattle.forward_one_grid.specs.Held.{numbers, Held}
@@ -13,7 +13,7 @@ use Rattle.forward_one_grid.specs.Held.{numbers, Held}
 -- ---- a use
 
 pub used : (o : Operator) (s : Program) (ps : List ℕ) (v x y u : List ℤ) → x ≡ get ps v → y ≡ undo s x → u ≡ put ps y v → u ≡ undo (apply o s ps end) v
-unfolding undoBy
+unfolding undo_by
 used o s ps v x y u a b c = rw (c, b, a)
 
 -- ---- uses in a row: what is still to be undone
@@ -26,7 +26,7 @@ less (suc k) f v w e h a b = rw (b, back_one) (sym (undo-each k f v) ∙ a)
     back_one = omega arith
 
 none : (f : ℕ → Program) (i : ℕ) (v e : List ℤ) → i ≡ 0 → undo (each i f) v ≡ e → v ≡ e
-unfolding undoBy each
+unfolding undo_by each
 none f zero v e h a = a
 none f (suc i) v e h a = absurd (omega (arith, h))
 
@@ -37,23 +37,23 @@ pub record Undoing (size : Size) (f : ℕ → Program) (n : ℕ) (dc₀ low₀ d
   pub held : Held size dc low
   pub of-dc : length dc ≡ length dc₀
   pub of_low : length low ≡ length low₀
-  pub to-undo : undo (each i f) (numbers size dc low) ≡ undo (each n f) (numbers size dc₀ low₀)
+  pub to_undo : undo (each i f) (numbers size dc low) ≡ undo (each n f) (numbers size dc₀ low₀)
 
-pub still-held : {size : Size} {dc low dc' low' : List ℤ} → Held size dc low → length dc' ≡ length dc → length low' ≡ length low → Held size dc' low'
-still-held h a b = record { sized = h.sized; of-dc = a ∙ h.of-dc; of_low = b ∙ h.of_low }
+pub still_held : {size : Size} {dc low dc' low' : List ℤ} → Held size dc low → length dc' ≡ length dc → length low' ≡ length low → Held size dc' low'
+still_held h a b = record { sized = h.sized; of-dc = a ∙ h.of-dc; of_low = b ∙ h.of_low }
 
-pub undoing-start : {size : Size} {f : ℕ → Program} {n i : ℕ} {dc low : List ℤ} → Held size dc low → i ≡ n → Undoing size f n dc low dc low i
-undoing-start {size} {f} {dc = dc} {low} h e =
-    record { within = omega arith; held = h; of-dc = refl; of_low = refl; to-undo = ap (λ (k : ℕ). undo (each k f) (numbers size dc low)) e }
+pub undoing_start : {size : Size} {f : ℕ → Program} {n i : ℕ} {dc low : List ℤ} → Held size dc low → i ≡ n → Undoing size f n dc low dc low i
+undoing_start {size} {f} {dc = dc} {low} h e =
+    record { within = omega arith; held = h; of-dc = refl; of_low = refl; to_undo = ap (λ (k : ℕ). undo (each k f) (numbers size dc low)) e }
 
 pub undoing_step : {size : Size} {f : ℕ → Program} {n i : ℕ} {dc₀ low₀ dc low dc' low' : List ℤ} → Undoing size f n dc₀ low₀ dc low i → 0 < i
     → length dc' ≡ length dc → length low' ≡ length low → numbers size dc' low' ≡ undo (f (i - 1)) (numbers size dc low) → Undoing size f n dc₀ low₀ dc' low' (i - 1)
 undoing_step {f = f} {i = i} u h a b e =
-    record { within = omega (arith, u.within); held = still-held u.held a b; of-dc = a ∙ u.of-dc; of_low = b ∙ u.of_low; to-undo = less i f _ _ _ h u.to-undo e }
+    record { within = omega (arith, u.within); held = still_held u.held a b; of-dc = a ∙ u.of-dc; of_low = b ∙ u.of_low; to_undo = less i f _ _ _ h u.to_undo e }
 
 -- n uses at a time
 each-split : (a n : ℕ) (f : ℕ → Program) (v : List ℤ) → undo (each (a + n) f) v ≡ undo (each a f) (undo (each n (λ l. f (a + l))) v)
-unfolding each undoBy
+unfolding each undo_by
 each-split a zero f v = ap (λ (k : ℕ). undo (each k f) v) no_more
   where
     no_more : a + 0 ≡ a
@@ -65,20 +65,20 @@ each-split a (suc n) f v =
     one_more : a + suc n ≡ suc (a + n)
     one_more = omega arith
 
-pub undoing-steps : {size : Size} {f : ℕ → Program} {n i : ℕ} {dc₀ low₀ dc low dc' low' : List ℤ} (m : ℕ) → Undoing size f n dc₀ low₀ dc low i → m ≤ i
+pub undoing_steps : {size : Size} {f : ℕ → Program} {n i : ℕ} {dc₀ low₀ dc low dc' low' : List ℤ} (m : ℕ) → Undoing size f n dc₀ low₀ dc low i → m ≤ i
     → length dc' ≡ length dc → length low' ≡ length low → numbers size dc' low' ≡ undo (each m (λ l. f (i - m + l))) (numbers size dc low) → Undoing size f n dc₀ low₀ dc' low' (i - m)
-undoing-steps {size} {f} {i = i} {dc = dc} {low} m u h a b e =
+undoing_steps {size} {f} {i = i} {dc = dc} {low} m u h a b e =
     record {
       within = omega (arith, u.within);
-      held = still-held u.held a b;
+      held = still_held u.held a b;
       of-dc = a ∙ u.of-dc;
       of_low = b ∙ u.of_low;
-      to-undo = rw e (sym (each-split (i - m) m f _) ∙ ap (λ (k : ℕ). undo (each k f) (numbers size dc low)) all ∙ u.to-undo);
+      to_undo = rw e (sym (each-split (i - m) m f _) ∙ ap (λ (k : ℕ). undo (each k f) (numbers size dc low)) all ∙ u.to_undo);
     }
   where
     all : i - m + m ≡ i
     all = omega arith
 
-pub undoing-end : {size : Size} {f : ℕ → Program} {n i : ℕ} {dc₀ low₀ dc low : List ℤ} → Undoing size f n dc₀ low₀ dc low i → i ≤ 0
+pub undoing_end : {size : Size} {f : ℕ → Program} {n i : ℕ} {dc₀ low₀ dc low : List ℤ} → Undoing size f n dc₀ low₀ dc low i → i ≤ 0
     → numbers size dc low ≡ undo (each n f) (numbers size dc₀ low₀)
-undoing-end {f = f} {i = i} u h = none f i _ _ (omega arith) u.to-undo
+undoing_end {f = f} {i = i} u h = none f i _ _ (omega arith) u.to_undo

@@ -1,11 +1,11 @@
 // The filters of level one undone, from the last use to the first.
 ghost use Rattle.std.specs.Prelude.{◌≡◌, ◌+◌, ◌*◌, ◌<◌};
 ghost use Rattle.lifting.specs.Program.{undo};
-ghost use Rattle.transform.specs.Level.{squareFilters, filters};
+ghost use Rattle.transform.specs.Level.{square_filters, filters};
 ghost use Rattle.picture.specs.Sizes.{macroblocks};
 ghost use Rattle.forward_one_grid.specs.Held.{numbers, over, Held};
 ghost use Rattle.forward_one_filters.specs.Edges.{line, edges, corners};
-ghost use Rattle.forward_one_filters.specs.Windows.{filtersOfRow};
+ghost use Rattle.forward_one_filters.specs.Windows.{filters_of_row};
 
 use crate::uses::undo_four_filter;
 use crate::windows::undo_group;
@@ -87,7 +87,7 @@ fn undo_corners(
 fn undo_squares_across(size: Size, dc: &mut [i32], low: &mut [i32], j: usize, t: usize)
     requires held { Held size dc.old low.old }
     requires j_bound { (j + 1 < size.height.0) × (t ≡ j * size.width.0) }
-    ensures { numbers size dc.new low.new ≡ undo (filtersOfRow size j) (numbers size dc.old low.old) }
+    ensures { numbers size dc.new low.new ≡ undo (filters_of_row size j) (numbers size dc.old low.old) }
 {
     let mut i = (size.width.0 as usize) - 1;
     while i > 0 {
@@ -99,7 +99,7 @@ fn undo_squares_across(size: Size, dc: &mut [i32], low: &mut [i32], j: usize, t:
 
 fn undo_square_filters(size: Size, dc: &mut [i32], low: &mut [i32])
     requires { Held size dc.old low.old }
-    ensures { numbers size dc.new low.new ≡ undo (over size squareFilters) (numbers size dc.old low.old) }
+    ensures { numbers size dc.new low.new ≡ undo (over size square_filters) (numbers size dc.old low.old) }
 {
     let width = size.width.0 as usize;
     let mut t = dc.len() - width;

@@ -1,12 +1,12 @@
 // Whether undoing the filters of level one wraps, where the level's grid lies in DC and low-pass: each is judged on its own numbers, and nothing is stored.
 ghost use Rattle.std.specs.Prelude.{◌≡◌, ◌+◌, ◌*◌, ◌<◌};
-ghost use Rattle.lifting.specs.Wraps.{undoWraps};
-ghost use Rattle.lifting.specs.AnyUse.{anyUse};
-ghost use Rattle.transform.specs.Level.{squareFilters, filtersIf, filters as filterProgram};
+ghost use Rattle.lifting.specs.Wraps.{undo_wraps};
+ghost use Rattle.lifting.specs.AnyUse.{any_use};
+ghost use Rattle.transform.specs.Level.{square_filters, filters_if, filters as filterProgram};
 ghost use Rattle.picture.specs.Sizes.{macroblocks};
 ghost use Rattle.forward_one_grid.specs.Held.{numbers, over, Held};
-ghost use Rattle.forward_one_filters.specs.Edges.{filterOf, line, edges, corners};
-ghost use Rattle.forward_one_filters.specs.Windows.{filterOn, filtersOfRow};
+ghost use Rattle.forward_one_filters.specs.Edges.{filter_of, line, edges, corners};
+ghost use Rattle.forward_one_filters.specs.Windows.{filter_on, filters_of_row};
 
 use forward_one_grid::get_pairs;
 use forward_one_grid::window::get_window;
@@ -19,7 +19,7 @@ use square_filter::undo_square_filter_wraps;
 fn window_wraps(size: Size, dc: &[i32], low: &[i32], j: usize, i: usize, t: usize) -> bool
     requires held { Held size dc.now low.now }
     requires j_bound { (j + 1 < size.height.0) × (i + 1 < size.width.0) × (t ≡ j * size.width.0 + i) }
-    ensures { result ≡ anyUse undoWraps (filterOn size j i) (numbers size dc.now low.now) }
+    ensures { result ≡ any_use undo_wraps (filter_on size j i) (numbers size dc.now low.now) }
 {
     undo_square_filter_wraps(get_window(size, dc, low, j, i, t))
 }
@@ -36,7 +36,7 @@ fn four_wraps(
 ) -> bool
     requires held { Held size dc.now low.now }
     requires t_bound { (t < macroblocks size) × (u < macroblocks size) × (k + step < 16) × (l + step < 16) }
-    ensures { result ≡ anyUse undoWraps (filterOf size t k u l step) (numbers size dc.now low.now) }
+    ensures { result ≡ any_use undo_wraps (filter_of size t k u l step) (numbers size dc.now low.now) }
 {
     unfiltered_wraps(get_pairs(size, dc, low, t, k, u, l, step))
 }
@@ -56,7 +56,7 @@ fn line_wraps(
 ) -> bool
     requires held { Held size dc.now low.now }
     requires n_bound { (from + pace * n < macroblocks size) × (l + 3 * step < 16) }
-    ensures { result ≡ anyUse undoWraps (line size from pace l step n) (numbers size dc.now low.now) }
+    ensures { result ≡ any_use undo_wraps (line size from pace l step n) (numbers size dc.now low.now) }
 {
     let mut t = from;
     for i in 0..n {
@@ -72,7 +72,7 @@ fn line_wraps(
 fn window_row_wraps(size: Size, dc: &[i32], low: &[i32], j: usize, t: usize) -> bool
     requires held { Held size dc.now low.now }
     requires j_bound { (j + 1 < size.height.0) × (t ≡ j * size.width.0) }
-    ensures { result ≡ anyUse undoWraps (filtersOfRow size j) (numbers size dc.now low.now) }
+    ensures { result ≡ any_use undo_wraps (filters_of_row size j) (numbers size dc.now low.now) }
 {
     let windows = (size.width.0 as usize) - 1;
     for i in 0..windows {
@@ -98,7 +98,7 @@ fn edges_wrap(
 ) -> bool
     requires held { Held size dc.now low.now }
     requires n_value { (far + pace * n + 1 ≡ macroblocks size) × (3 * side + 3 * step < 16) }
-    ensures { result ≡ anyUse undoWraps (edges size far pace side step n) (numbers size dc.now low.now) }
+    ensures { result ≡ any_use undo_wraps (edges size far pace side step n) (numbers size dc.now low.now) }
 {
     let first = line_wraps(size, dc, low, 0, pace, 0, step, n);
     let second = line_wraps(size, dc, low, 0, pace, side, step, n);
@@ -118,7 +118,7 @@ fn corners_wrap(
 ) -> bool
     requires held { Held size dc.now low.now }
     requires right_bound { (right < macroblocks size) × (bottom < macroblocks size) × (last < macroblocks size) }
-    ensures { result ≡ anyUse undoWraps (corners size right bottom last) (numbers size dc.now low.now) }
+    ensures { result ≡ any_use undo_wraps (corners size right bottom last) (numbers size dc.now low.now) }
 {
     let top_left = four_wraps(size, dc, low, 0, 0, 0, 4, 1);
     let top_right = four_wraps(size, dc, low, right, 2, right, 6, 1);
@@ -129,7 +129,7 @@ fn corners_wrap(
 
 fn windows_wrap(size: Size, dc: &[i32], low: &[i32]) -> bool
     requires { Held size dc.now low.now }
-    ensures { result ≡ anyUse undoWraps (over size squareFilters) (numbers size dc.now low.now) }
+    ensures { result ≡ any_use undo_wraps (over size square_filters) (numbers size dc.now low.now) }
 {
     let width = size.width.0 as usize;
     let rows = (size.height.0 as usize) - 1;
@@ -145,7 +145,7 @@ fn windows_wrap(size: Size, dc: &[i32], low: &[i32]) -> bool
 
 fn filters_wrap(size: Size, dc: &[i32], low: &[i32]) -> bool
     requires { Held size dc.now low.now }
-    ensures { result ≡ undoWraps (over size filterProgram) (numbers size dc.now low.now) }
+    ensures { result ≡ undo_wraps (over size filterProgram) (numbers size dc.now low.now) }
 {
     let width = size.width.0 as usize;
     let height = size.height.0 as usize;
@@ -165,7 +165,7 @@ fn filters_wrap(size: Size, dc: &[i32], low: &[i32]) -> bool
 // The same where the level is filtered.
 pub fn held_filters_wrap_if(filtered: bool, size: Size, dc: &[i32], low: &[i32]) -> bool
     requires { Held size dc.now low.now }
-    ensures { result ≡ undoWraps (over size (filtersIf filtered)) (numbers size dc.now low.now) }
+    ensures { result ≡ undo_wraps (over size (filters_if filtered)) (numbers size dc.now low.now) }
 {
     if filtered {
         return filters_wrap(size, dc, low);

@@ -1,10 +1,10 @@
 // Up to four windows side by side in level one's grid, their filters undone: they are read before any is stored, and no two overlap.
 ghost use Rattle.std.specs.Prelude.{◌≡◌, ℕ, ◌+◌, ◌*◌, ◌<◌, ◌≤◌, length};
 ghost use Rattle.lifting.specs.Program.{get, undo};
-ghost use Rattle.figures.specs.Figures.{squareFilter};
+ghost use Rattle.figures.specs.Figures.{square_filter};
 ghost use Rattle.transform.specs.Level.{square};
 ghost use Rattle.forward_one_grid.specs.Held.{numbers, Held, window};
-ghost use Rattle.forward_one_filters.specs.Windows.{filtersOn};
+ghost use Rattle.forward_one_filters.specs.Windows.{filters_on};
 
 use forward_four_windows::undo_four_windows;
 use forward_one_grid::window::{get_window, put_window};
@@ -46,8 +46,8 @@ fn put_windows(
     requires held { Held size dc.old low.old }
     requires t_value { t ≡ j * size.width.0 + i }
     requires j_bound { (j + 1 < size.height.0) × (i + n < size.width.0) × (n ≤ 4) × (length out.now ≡ 288) }
-    requires by_index { (l : ℕ) → l < n → get (square 72 (4 * l)) out.now ≡ undo squareFilter (get (window size j (i + l)) (numbers size dc.old low.old)) }
-    ensures { numbers size dc.new low.new ≡ undo (filtersOn size j i n) (numbers size dc.old low.old) }
+    requires by_index { (l : ℕ) → l < n → get (square 72 (4 * l)) out.now ≡ undo square_filter (get (window size j (i + l)) (numbers size dc.old low.old)) }
+    ensures { numbers size dc.new low.new ≡ undo (filters_on size j i n) (numbers size dc.old low.old) }
 {
     let mut l = n;
     while l > 0 {
@@ -70,7 +70,7 @@ pub fn undo_group(
     requires held { Held size dc.old low.old }
     requires t_value { t ≡ j * size.width.0 + i }
     requires j_bound { (j + 1 < size.height.0) × (i + n < size.width.0) × (n ≤ 4) }
-    ensures { numbers size dc.new low.new ≡ undo (filtersOn size j i n) (numbers size dc.old low.old) }
+    ensures { numbers size dc.new low.new ≡ undo (filters_on size j i n) (numbers size dc.old low.old) }
 {
     let mut held = [0i32; 64];
     get_windows(size, dc, low, j, i, t, n, &mut held);

@@ -17,7 +17,7 @@ use Rattle.transform.specs.Level.{cell, strip, square, corner}
 use Rattle.transform.specs.Grids.{place}
 use Rattle.picture.specs.Sizes.{macroblocks, Sized}
 use Rattle.picture.proofs.CheckLaws.{few}
-use Rattle.grid.proofs.Squares.{square-read, square-stored}
+use Rattle.grid.proofs.Squares.{square_read, square_stored}
 use Rattle.forward_one_grid.specs.Held.{pairs}
 
 -- ---- four reads, and four stores
@@ -26,19 +26,19 @@ pub record Read (v : List ℤ) (place : ℕ) (x : ℤ) : Type 0 where
   pub fits : mag x < 2147483648
   pub is : x ≡ at v place
 
-pub fours-read : {v : List ℤ} {p q r s : ℕ} {a b c d : ℤ} → Read v p a → Read v q b → Read v r c → Read v s d
+pub fours_read : {v : List ℤ} {p q r s : ℕ} {a b c d : ℤ} → Read v p a → Read v q b → Read v r c → Read v s d
     → kept a ∷ kept b ∷ kept c ∷ kept d ∷ [] ≡ get (p ∷ q ∷ r ∷ s ∷ []) v
 unfolding get
-fours-read e f g h = rw (back e.fits ∙ e.is, back f.fits ∙ f.is, back g.fits ∙ g.is, back h.fits ∙ h.is)
+fours_read e f g h = rw (back e.fits ∙ e.is, back f.fits ∙ f.is, back g.fits ∙ g.is, back h.fits ∙ h.is)
 
 pub record Stored (v w : List ℤ) (place : ℕ) (x : ℤ) : Type 0 where
   pub fits : mag x < 2147483648
   pub is : w ≡ set v place (kept x)
 
-pub fours-stored : {v v1 v2 v3 v4 : List ℤ} {p q r s : ℕ} {a b c d : ℤ} → Stored v v1 p a → Stored v1 v2 q b → Stored v2 v3 r c → Stored v3 v4 s d
+pub fours_stored : {v v1 v2 v3 v4 : List ℤ} {p q r s : ℕ} {a b c d : ℤ} → Stored v v1 p a → Stored v1 v2 q b → Stored v2 v3 r c → Stored v3 v4 s d
     → v4 ≡ put (p ∷ q ∷ r ∷ s ∷ []) (a ∷ b ∷ c ∷ d ∷ []) v
 unfolding put
-fours-stored e f g h = h.is ∙ rw (g.is, f.is, e.is, back e.fits, back f.fits, back g.fits, back h.fits)
+fours_stored e f g h = h.is ∙ rw (g.is, f.is, e.is, back e.fits, back f.fits, back g.fits, back h.fits)
 
 -- ---- lines across an edge as strips, and corners
 
@@ -114,18 +114,18 @@ module _ {size : Size} {j i t u : ℕ} (at : Meeting size j i t u) where
     row_line size u (u + 1) (j + 1) i 1 (omega (arith, at.upper, at.lower)) refl at.beside ∙ ap (strip 1) (omega arith),
   )
 
-  pub window-read : (v p q r s : List ℤ) → four p ≡ get (pairs size t 10 (t + 1) 8 1) v → four q ≡ get (pairs size t 14 (t + 1) 12 1) v
+  pub window_read : (v p q r s : List ℤ) → four p ≡ get (pairs size t 10 (t + 1) 8 1) v → four q ≡ get (pairs size t 14 (t + 1) 12 1) v
       → four r ≡ get (pairs size u 2 (u + 1) 0 1) v → four s ≡ get (pairs size u 6 (u + 1) 4 1) v → flat (p ∷ q ∷ r ∷ s ∷ []) ≡ get (square w from) v
-  window-read v p q r s a b c d = square-read v w from p q r s (a ∙ to lines.0) (b ∙ to lines.1) (c ∙ to lines.2) (d ∙ to lines.3)
+  window_read v p q r s a b c d = square_read v w from p q r s (a ∙ to lines.0) (b ∙ to lines.1) (c ∙ to lines.2) (d ∙ to lines.3)
     where
       to : {x y : List ℕ} → x ≡ y → get x v ≡ get y v
       to e = ap (λ ps. get ps v) e
 
-  pub window-stored : (m : List (List ℤ)) (v : List ℤ) {v1 v2 v3 v4 : List ℤ} → v1 ≡ put (pairs size t 10 (t + 1) 8 1) (four (get_or m 0 [])) v
+  pub window_stored : (m : List (List ℤ)) (v : List ℤ) {v1 v2 v3 v4 : List ℤ} → v1 ≡ put (pairs size t 10 (t + 1) 8 1) (four (get_or m 0 [])) v
       → v2 ≡ put (pairs size t 14 (t + 1) 12 1) (four (get_or m 1 [])) v1 → v3 ≡ put (pairs size u 2 (u + 1) 0 1) (four (get_or m 2 [])) v2
       → v4 ≡ put (pairs size u 6 (u + 1) 4 1) (four (get_or m 3 [])) v3 → v4 ≡ put (square w from) (flat m) v
-  window-stored m v {v1} {v2} {v3} a b c d =
-      square-stored v w from m (a ∙ to lines.0 _ v) (b ∙ to lines.1 _ v1) (c ∙ to lines.2 _ v2) (d ∙ to lines.3 _ v3)
+  window_stored m v {v1} {v2} {v3} a b c d =
+      square_stored v w from m (a ∙ to lines.0 _ v) (b ∙ to lines.1 _ v1) (c ∙ to lines.2 _ v2) (d ∙ to lines.3 _ v3)
     where
       to : {x y : List ℕ} → x ≡ y → (xs v : List ℤ) → put x xs v ≡ put y xs v
       to e xs v = ap (λ ps. put ps xs v) e

@@ -8,9 +8,9 @@ use lib.ListN.{length, set, length-set}
 use lib.Seq.{get_or-set_same, get_or-set_other}
 use lib.IntN.{ℤ, pos}
 use Rattle.lifting.specs.Program.{at}
-use Rattle.transform.specs.Grids.{squareOf, coefficientOf, place, grid, coefficients, firstGrid}
-use Rattle.transform.proofs.Geometry.{square-of-place, coefficient-of-place, place-low}
-use Rattle.transform.proofs.Grid.{first-coefficient, later-coefficient, at-grid, at_first, grid-is, length-grid}
+use Rattle.transform.specs.Grids.{square_of, coefficient_of, place, grid, coefficients, first_grid}
+use Rattle.transform.proofs.Geometry.{square-of-place, coefficient_of_place, place-low}
+use Rattle.transform.proofs.Grid.{first_coefficient, later_coefficient, at-grid, at_first, grid-is, length-grid}
 
 back_one : (k : ℕ) → suc k - 1 ≡ k
 back_one k = omega arith
@@ -27,8 +27,8 @@ module _ {W : ℕ} (wide : 0 < W) (H : ℕ) where
         where
           by-case : Dec (place W t l ≡ place W s k) → f' t l ≡ at (set (grid W H f) (place W s k) x) (place W t l)
           by-case (yes e) =
-              let es : t ≡ s = sym (square-of-place wide t l hl) ∙ ap (squareOf W) e ∙ square-of-place wide s k hk in
-              let ek : l ≡ k = sym (coefficient-of-place wide t l hl) ∙ ap (coefficientOf W) e ∙ coefficient-of-place wide s k hk in
+              let es : t ≡ s = sym (square-of-place wide t l hl) ∙ ap (square_of W) e ∙ square-of-place wide s k hk in
+              let ek : l ≡ k = sym (coefficient_of_place wide t l hl) ∙ ap (coefficient_of W) e ∙ coefficient_of_place wide s k hk in
               let r : place W s k < length (grid W H f) = omega (arith, length-grid W H f, place-low wide H s k hs hk) in
               rw (es, ek, here) (sym (get_or-set_same (grid W H f) (place W s k) x (pos 0) r))
           by-case (no n) =
@@ -37,14 +37,14 @@ module _ {W : ℕ} (wide : 0 < W) (H : ℕ) where
               ∙ sym (get_or-set_other (grid W H f) (place W s k) (place W t l) x (pos 0) n)
 
   module _ (dc low : List ℤ) (t k : ℕ) (inside : t < W * H) where
-    pub dc-read : k ≡ 0 → at dc t ≡ at (firstGrid W H dc low) (place W t k)
-    dc-read e = first-coefficient _ _ k e ∙ sym (at_first wide H dc low t k inside (omega arith))
+    pub dc-read : k ≡ 0 → at dc t ≡ at (first_grid W H dc low) (place W t k)
+    dc-read e = first_coefficient _ _ k e ∙ sym (at_first wide H dc low t k inside (omega arith))
 
-    pub low_read : k < 16 → (k ≡ 0 → ⊥) → at low (15 * t + (k - 1)) ≡ at (firstGrid W H dc low) (place W t k)
-    low_read h n = later-coefficient _ (λ j. at low (15 * t + j)) k n ∙ sym (at_first wide H dc low t k inside h)
+    pub low_read : k < 16 → (k ≡ 0 → ⊥) → at low (15 * t + (k - 1)) ≡ at (first_grid W H dc low) (place W t k)
+    low_read h n = later_coefficient _ (λ j. at low (15 * t + j)) k n ∙ sym (at_first wide H dc low t k inside h)
 
-    pub dc-stored : (x : ℤ) → k ≡ 0 → t < length dc → firstGrid W H (set dc t x) low ≡ set (firstGrid W H dc low) (place W t k) x
-    unfolding firstGrid
+    pub dc-stored : (x : ℤ) → k ≡ 0 → t < length dc → first_grid W H (set dc t x) low ≡ set (first_grid W H dc low) (place W t k) x
+    unfolding first_grid
     dc-stored x e h = rw e (grid-set _ _ t 0 x inside (omega arith) (get_or-set_same dc t x (pos 0) h) there)
       where
         there : (s l : ℕ) → l < 16 → ((s ≡ t) × (l ≡ 0) → ⊥)
@@ -53,12 +53,12 @@ module _ {W : ℕ} (wide : 0 < W) (H : ℕ) where
         there s (suc l) hl n = refl
 
     pub low-stored : (x : ℤ) → k < 16 → (k ≡ 0 → ⊥) → 15 * t + (k - 1) < length low
-        → firstGrid W H dc (set low (15 * t + (k - 1)) x) ≡ set (firstGrid W H dc low) (place W t k) x
-    unfolding firstGrid
+        → first_grid W H dc (set low (15 * t + (k - 1)) x) ≡ set (first_grid W H dc low) (place W t k) x
+    unfolding first_grid
     low-stored x h n r = by-case k h n r
       where
         by-case : (k : ℕ) → k < 16 → (k ≡ 0 → ⊥) → 15 * t + (k - 1) < length low
-            → firstGrid W H dc (set low (15 * t + (k - 1)) x) ≡ set (firstGrid W H dc low) (place W t k) x
+            → first_grid W H dc (set low (15 * t + (k - 1)) x) ≡ set (first_grid W H dc low) (place W t k) x
         by-case zero h n r = absurd (n refl)
         by-case (suc k) h n r =
             rw (back_one k) (grid-set _ _ t (suc k) x inside h (get_or-set_same low (15 * t + k) x (pos 0) (omega arith)) there)

@@ -4,11 +4,11 @@ use Rattle.std.specs.Prelude.{ℕ, ◌+◌, ◌*◌, ◌≡◌, List, [], ◌∷
 use Rattle.picture.specs.declared.size.Size.{Size}
 use Rattle.lifting.specs.Program.{Program}
 use Rattle.transform.specs.Level.{cell, square}
-use Rattle.transform.specs.Grids.{place, firstGrid}
+use Rattle.transform.specs.Grids.{place, first_grid}
 use Rattle.picture.specs.Sizes.{macroblocks, Sized}
 
 abbrev pub numbers : Size → List ℤ → List ℤ → List ℤ
-numbers size dc low = firstGrid size.width.0 size.height.0 dc low
+numbers size dc low = first_grid size.width.0 size.height.0 dc low
 
 -- a stage of the whole grid
 abbrev pub over : Size → (ℕ → ℕ → Program) → Program
@@ -27,8 +27,8 @@ pairs size t k u l step =
     place W t k ∷ place W t (k + step) ∷ place W u l ∷ place W u (l + step) ∷ []
 
 -- window (j, i) lies over the corner of squares (j, i), (j, i + 1), (j + 1, i) and (j + 1, i + 1): the place of its first number, and all its places
-abbrev pub windowStart : Size → ℕ → ℕ → ℕ
-windowStart size j i = cell size.width.0 (4 * j + 2) (4 * i + 2)
+abbrev pub window_start : Size → ℕ → ℕ → ℕ
+window_start size j i = cell size.width.0 (4 * j + 2) (4 * i + 2)
 
 abbrev pub window : Size → ℕ → ℕ → List ℕ
-window size j i = square (4 * size.width.0) (windowStart size j i)
+window size j i = square (4 * size.width.0) (window_start size j i)

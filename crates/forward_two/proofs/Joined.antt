@@ -19,25 +19,25 @@ use Rattle.picture.specs.declared.size.Size.{Size}
 use Rattle.picture.proofs.Table.{same_lists}
 use Rattle.lanes.proofs.Rows.{square-at}
 use Rattle.grid.proofs.Rows.{row_inside}
-use Rattle.forward_kernel.specs.Placed.{undoneAt}
+use Rattle.forward_kernel.specs.Placed.{undone_at}
 use Rattle.forward_two_cores.specs.declared.cells.Cells.{Cells}
 use Rattle.forward_two_cores.specs.Cells.{OfOne}
-use Rattle.forward_two_cores.specs.Blocks.{squareIn, undoneIn, Among, Replaced}
+use Rattle.forward_two_cores.specs.Blocks.{square_in, undone_in, Among, Replaced}
 use Rattle.forward_two_edges.specs.Unfiltered.{unfiltered}
 use Rattle.forward_two_edges.specs.Strip.{Holds, Kept, Rows}
-use Rattle.forward_two_edges.proofs.Strips.{holds_kept, holds-under, holds-beside, holds_as}
+use Rattle.forward_two_edges.proofs.Strips.{holds_kept, holds_under, holds_beside, holds_as}
 use Rattle.forward_two_parked.specs.Parked.{place_in, Fetched, Parked}
 use Rattle.forward_two.specs.Strips.{Carried, Through, Planes, Lowered}
 
-length-sixteen : (w i : ℕ) (v : List ℤ) → length (get (square w i) v) ≡ 16
+length_sixteen : (w i : ℕ) (v : List ℤ) → length (get (square w i) v) ≡ 16
 unfolding get square
-length-sixteen w i v = refl
+length_sixteen w i v = refl
 
 -- number j of block t's square
-pub square-in-at : {W : ℕ} → 0 < W → (r c : ℕ) → c < W → (u : List ℤ) (t j : ℕ) → t / 16 ≡ r * W + c → j < 16
-    → at (squareIn W u t) j ≡ at u (cell (4 * W) (16 * r + (4 * (t % 16 / 4) + j / 4)) (16 * c + (4 * (t % 16 % 4) + j % 4)))
-unfolding squareIn
-square-in-at {W} wide r c beside u t j e h =
+pub square_in_at : {W : ℕ} → 0 < W → (r c : ℕ) → c < W → (u : List ℤ) (t j : ℕ) → t / 16 ≡ r * W + c → j < 16
+    → at (square_in W u t) j ≡ at u (cell (4 * W) (16 * r + (4 * (t % 16 / 4) + j / 4)) (16 * c + (4 * (t % 16 % 4) + j % 4)))
+unfolding square_in
+square_in_at {W} wide r c beside u t j e h =
     let k = t % 16 in
     let row : t / 16 / W ≡ r = rw e (digits_div r beside) in
     let column : t / 16 % W ≡ c = rw e (digits_mod r beside) in
@@ -45,9 +45,9 @@ square-in-at {W} wide r c beside u t j e h =
     let low : 4 * c + k % 4 < 4 * W = omega arith in
     rw (place, digits_div (4 * r + k / 4) low, digits_mod (4 * r + k / 4) low) (square-at (4 * (4 * W)) _ u j h ∙ ap (at u) (omega arith))
 
-length-in : (W : ℕ) (u : List ℤ) (t : ℕ) → length (squareIn W u t) ≡ 16
-unfolding squareIn
-length-in W u t = length-sixteen _ _ u
+length_in : (W : ℕ) (u : List ℤ) (t : ℕ) → length (square_in W u t) ≡ 16
+unfolding square_in
+length_in W u t = length_sixteen _ _ u
 
 -- column x of row y as a block's coefficient
 strip-place : (y x : ℕ) → 72 * y + x ≡ place_in 0 (x / 16) (x % 16 / 4) (4 * y + x % 4)
@@ -76,24 +76,24 @@ module _ (size : Size) (samples : List ℤ) (wide : 0 < size.width.0) (r c n : �
 
   -- ---- the cores
 
-  pub strip-square : {strip : List ℤ} → Holds size samples r c 0 18 0 (16 * n) strip → (t b : ℕ) → b < n → t / 16 ≡ r * W + c + b → undoneIn 72 (16 * b) strip (t % 16) ≡ undo core (squareIn W U t)
-  unfolding undoneAt
+  pub strip-square : {strip : List ℤ} → Holds size samples r c 0 18 0 (16 * n) strip → (t b : ℕ) → b < n → t / 16 ≡ r * W + c + b → undone_in 72 (16 * b) strip (t % 16) ≡ undo core (square_in W U t)
+  unfolding undone_at
   strip-square {strip} d t b h e =
       let k = t % 16 in
-      ap (undo core) (same_lists 16 _ _ (length-sixteen 72 _ strip) (length-in W U t)
+      ap (undo core) (same_lists 16 _ _ (length_sixteen 72 _ strip) (length_in W U t)
       (λ j l.
       square-at 72 (16 * b + 4 * (k / 4) * 72 + 4 * (k % 4)) strip j l
       ∙ ap (at strip) (omega arith) ∙ d.there (4 * (k / 4) + j / 4) (16 * b + (4 * (k % 4) + j % 4)) (omega arith) (omega arith) (omega arith) (omega arith) (omega arith) (omega arith)
       ∙ ap (λ (x : ℕ). at U (cell (4 * W) (16 * r + (4 * (k / 4) + j / 4)) x)) (omega arith)
-      ∙ sym (square-in-at wide r (c + b) (omega arith) U t j (omega arith) l)))
+      ∙ sym (square_in_at wide r (c + b) (omega arith) U t j (omega arith) l)))
 
   -- ---- the rows above
 
-  pub rows-fetched : (blocks : ℕ → List ℤ) (m : ℕ) {old new : List ℤ} → m ≡ r * W + c → 0 < r → n ≤ 4 → Through size samples (r * W + c) blocks → Fetched m n blocks new → Kept 0 2 0 (16 * n) old new
+  pub rows_fetched : (blocks : ℕ → List ℤ) (m : ℕ) {old new : List ℤ} → m ≡ r * W + c → 0 < r → n ≤ 4 → Through size samples (r * W + c) blocks → Fetched m n blocks new → Kept 0 2 0 (16 * n) old new
       → Holds size samples r c 2 18 0 (16 * n + 2) old → Holds size samples r c 0 18 0 (16 * n) new × Holds size samples r c 2 18 0 (16 * n + 2) new
-  rows-fetched blocks m {old} {new} place lower few through f kept d =
+  rows_fetched blocks m {old} {new} place lower few through f kept d =
       let rest = holds_kept r c 2 18 0 (16 * n + 2) 0 2 0 (16 * n) (omega arith) (λ y x a b e g h i k l. absurd (omega arith)) d kept in
-      (holds-under r c 0 2 18 0 (16 * n) (record { there = above }) (holds_as r c 2 18 0 (16 * n) (omega arith) (omega arith) (omega arith) (omega arith) rest), rest)
+      (holds_under r c 0 2 18 0 (16 * n) (record { there = above }) (holds_as r c 2 18 0 (16 * n) (omega arith) (omega arith) (omega arith) (omega arith) rest), rest)
     where
       row : W ≤ r * W
       row = omega (arith, mul-le-mul_right W lower)
@@ -101,7 +101,7 @@ module _ (size : Size) (samples : List ℤ) (wide : 0 < size.width.0) (r c n : �
       inside : (b : ℕ) → b < n → r * W + c + b < W * H
       inside b h = omega (arith, row_inside r H W below)
 
-      here : (t j b k : ℕ) → t / 16 ≡ r * W + c + b → t % 16 ≡ k → k < 4 → b < n → j < 8 → at (blocks t) j ≡ at (squareIn W U t) j
+      here : (t j b k : ℕ) → t / 16 ≡ r * W + c + b → t % 16 ≡ k → k < 4 → b < n → j < 8 → at (blocks t) j ≡ at (square_in W U t) j
       here t j b k e upper l h g = through.parked t j (omega arith) (omega arith) (omega (arith, row)) (omega (arith, inside b h)) (omega arith) g
 
       above : (y x : ℕ) → 0 ≤ y → y < 2 → 0 ≤ x → x < 16 * n → 16 * r + y < 16 * H → 16 * c + x < 16 * W → at new (72 * y + x) ≡ at U (cell (4 * W) (16 * r + y) (16 * c + x))
@@ -118,24 +118,24 @@ module _ (size : Size) (samples : List ℤ) (wide : 0 < size.width.0) (r c n : �
           let at_block = block-place c y x (t % 16) upper in
           ap (at new) (strip-place y x) ∙ f.own b k j low few short
           ∙ here t j b k e upper few low short
-          ∙ square-in-at wide r (c + b) (omega (arith, low)) U t j (e ∙ omega arith) (omega (arith, short))
+          ∙ square_in_at wide r (c + b) (omega (arith, low)) U t j (e ∙ omega arith) (omega (arith, short))
           ∙ ap₂ (λ (a d : ℕ). at U (cell (4 * W) (16 * r + a) d)) at_block.0 at_block.1
 
   -- ---- the columns beside
 
-  pub columns-carried : (first : ℕ) {strip : List ℤ} → n ≡ 4 → c + n < W → Holds size samples r c first 18 0 (16 * n + 2) strip → Carried size samples r (c + n) first strip
-  columns-carried first {strip} four more d = record {
+  pub columns_carried : (first : ℕ) {strip : List ℤ} → n ≡ 4 → c + n < W → Holds size samples r c first 18 0 (16 * n + 2) strip → Carried size samples r (c + n) first strip
+  columns_carried first {strip} four more d = record {
     there = λ y x a b e f.
         ap (at strip) (omega arith) ∙ d.there y (64 + x) a b (omega arith) (omega arith) f (omega arith) ∙ ap (λ (z : ℕ). at U (cell (4 * W) (16 * r + y) z)) (omega arith);
   }
 
   -- ---- a group: its own blocks, and its rows for the row of macroblocks below
 
-  pub group-through : (blocks mid new : ℕ → List ℤ) (m : ℕ) {strip : List ℤ} → m ≡ r * W + c → n ≤ 4 → Holds size samples r c 0 18 0 (16 * n) strip → Through size samples (r * W + c) blocks
-      → ((t b : ℕ) → b < n → t / 16 ≡ m + b → mid t ≡ undoneIn 72 (16 * b) strip (t % 16)) → ((t : ℕ) → (Among m (m + n) t → ⊥) → mid t ≡ blocks t)
+  pub group_through : (blocks mid new : ℕ → List ℤ) (m : ℕ) {strip : List ℤ} → m ≡ r * W + c → n ≤ 4 → Holds size samples r c 0 18 0 (16 * n) strip → Through size samples (r * W + c) blocks
+      → ((t b : ℕ) → b < n → t / 16 ≡ m + b → mid t ≡ undone_in 72 (16 * b) strip (t % 16)) → ((t : ℕ) → (Among m (m + n) t → ⊥) → mid t ≡ blocks t)
       → ((t b j : ℕ) → b < n → t / 16 ≡ r * W + c + W + b → t / 16 < macroblocks size → t % 16 < 4 → j < 8 → at (new t) j ≡ at strip (place_in 16 b (t % 16) j))
       → ((t : ℕ) → (Among (r * W + c + W) (r * W + c + W + n) t → ⊥) → new t ≡ mid t) → Through size samples (r * W + c + n) new
-  group-through blocks mid new m {strip} place few d through own others parked kept = record {
+  group_through blocks mid new m {strip} place few d through own others parked kept = record {
     done = λ t h. kept t (λ a. omega (arith, a, h)) ∙ by_cases (dec_lt (t / 16) (r * W + c))
         (λ l. others t (λ a. omega (arith, a, l)) ∙ through.done t l)
         (λ l. let b = t / 16 - (r * W + c) in own t b (omega (arith, l)) (omega (arith, l)) ∙ strip-square d t b (omega (arith, l)) (omega (arith, l)));
@@ -144,7 +144,7 @@ module _ (size : Size) (samples : List ℤ) (wide : 0 < size.width.0) (r c n : �
         (λ i. under t j (omega (arith, i)) k e f g);
   }
     where
-      under : (t j : ℕ) → r * W + c + W ≤ t / 16 → t / 16 < r * W + c + n + W → t / 16 < macroblocks size → t % 16 < 4 → j < 8 → at (new t) j ≡ at (squareIn W U t) j
+      under : (t j : ℕ) → r * W + c + W ≤ t / 16 → t / 16 < r * W + c + n + W → t / 16 < macroblocks size → t % 16 < 4 → j < 8 → at (new t) j ≡ at (square_in W U t) j
       under t j h k e f g =
           let b = t / 16 - (r * W + c + W) in
           let next : (r + 1) * W ≡ r * W + W = add-mul r 1 W ∙ omega arith in
@@ -152,7 +152,7 @@ module _ (size : Size) (samples : List ℤ) (wide : 0 < size.width.0) (r c n : �
           parked t b j (omega arith) (omega arith) e f g
           ∙ ap (at strip) (omega arith) ∙ d.there (16 + j / 4) (16 * b + (4 * (t % 16) + j % 4)) (omega arith) (omega arith) (omega arith) (omega arith) (omega (arith, row)) (omega arith)
           ∙ ap₂ (λ (y x : ℕ). at U (cell (4 * W) y x)) (omega (arith, f)) (omega (arith, f))
-          ∙ sym (square-in-at wide (r + 1) (c + b) (omega arith) U t j (omega (arith, next)) (omega arith))
+          ∙ sym (square_in_at wide (r + 1) (c + b) (omega arith) U t j (omega (arith, next)) (omega arith))
         where
           last : ¬ (r + 1 < H) → H ≤ r + 1
           last o = omega (arith, o)
@@ -185,16 +185,16 @@ carry-row n old mid u v low room e f d k =
     )
 
 -- the same where the row begins at place i
-pub carry-more : (n i : ℕ) (old mid : List ℤ) (u v : ℤ) → i ≡ 72 * n → n < 18 → length mid ≡ 1296 → u ≡ at mid (i + 64) → v ≡ at (set mid i u) (i + 65)
+pub carry_more : (n i : ℕ) (old mid : List ℤ) (u v : ℤ) → i ≡ 72 * n → n < 18 → length mid ≡ 1296 → u ≡ at mid (i + 64) → v ≡ at (set mid i u) (i + 65)
     → CarriedUpTo n old mid → Kept 0 18 0 2 old mid → CarriedUpTo (n + 1) old (set (set mid i u) (i + 1) v) × Kept 0 18 0 2 old (set (set mid i u) (i + 1) v)
-carry-more n i old mid u v begins low room e f d k = rw begins (carry-row n old mid u v low room (rw begins at e) (rw begins at f) d k)
+carry_more n i old mid u v begins low room e f d k = rw begins (carry-row n old mid u v low room (rw begins at e) (rw begins at f) d k)
 
 -- ---- core after core
 
-pub cores-more : (m n : ℕ) (f : ℕ → ℕ → List ℤ) {old mid new : ℕ → List ℤ} → Replaced (λ t. t / 16 ≡ m + n) (λ t. f n (t % 16)) mid new
+pub cores_more : (m n : ℕ) (f : ℕ → ℕ → List ℤ) {old mid new : ℕ → List ℤ} → Replaced (λ t. t / 16 ≡ m + n) (λ t. f n (t % 16)) mid new
     → ((t b : ℕ) → b < n → t / 16 ≡ m + b → mid t ≡ f b (t % 16)) → ((t : ℕ) → (Among m (m + n) t → ⊥) → mid t ≡ old t)
     → ((t b : ℕ) → b < n + 1 → t / 16 ≡ m + b → new t ≡ f b (t % 16)) × ((t : ℕ) → (Among m (m + (n + 1)) t → ⊥) → new t ≡ old t)
-cores-more m n f {old} {mid} {new} r own others = (
+cores_more m n f {old} {mid} {new} r own others = (
   λ t b h e. by_cases (ℕ_discrete b n) (λ q. r.own t (omega (arith, e, q)) ∙ ap (λ (i : ℕ). f i (t % 16)) (sym q)) (λ o. r.others t (λ q. o (omega (arith, e, q))) ∙ own t b (omega (arith, o)) e),
   λ t o. r.others t (λ q. o (omega (arith, q), omega (arith, q))) ∙ others t (λ a. o (omega (arith, a), omega (arith, a))),
 )
@@ -202,26 +202,26 @@ cores-more m n f {old} {mid} {new} r own others = (
 -- ---- the columns of a group
 
 module _ {size : Size} {samples : List ℤ} (r c n first : ℕ) (some : 0 < n) (few : n ≤ 4) where
-  pub inner-columns : {v w : List ℤ} → Holds size samples r c first 18 0 2 v → Holds size samples r c first 18 2 (4 * (4 * n) + 2) w → Kept first 18 2 72 v w → Holds size samples r c first 18 0 (16 * n + 2) w
-  inner-columns a b k =
+  pub inner_columns : {v w : List ℤ} → Holds size samples r c first 18 0 2 v → Holds size samples r c first 18 2 (4 * (4 * n) + 2) w → Kept first 18 2 72 v w → Holds size samples r c first 18 0 (16 * n + 2) w
+  inner_columns a b k =
       holds_as r c first 18 0 (16 * n + 2) (omega arith) (omega arith) (omega arith) (omega arith)
-      (holds-beside r c first 18 0 2 (4 * (4 * n) + 2) (holds_kept r c first 18 0 2 first 18 2 72 (omega arith) (λ y x d e f g h i j l. absurd (omega arith)) a k) b)
+      (holds_beside r c first 18 0 2 (4 * (4 * n) + 2) (holds_kept r c first 18 0 2 first 18 2 72 (omega arith) (λ y x d e f g h i j l. absurd (omega arith)) a k) b)
 
   -- the last columns of a picture lie at its edge, and there are no more
-  pub last-columns : {v w z : List ℤ} → c + n ≡ size.width.0 → Holds size samples r c first 18 0 2 v → Holds size samples r c first 18 2 (4 * (4 * n - 1) + 2) w → Kept first 18 2 72 v w
+  pub last_columns : {v w z : List ℤ} → c + n ≡ size.width.0 → Holds size samples r c first 18 0 2 v → Holds size samples r c first 18 2 (4 * (4 * n - 1) + 2) w → Kept first 18 2 72 v w
       → Holds size samples r c first 18 (16 * n - 2) (16 * n - 2 + 2) z → Kept first 18 (16 * n - 2) (16 * n - 2 + 2) w z → Holds size samples r c first 18 0 (16 * n + 2) z
-  last-columns end a b k d m =
+  last_columns end a b k d m =
       let m' = 16 * n - 2 in
       let left = holds_kept r c first 18 0 2 first 18 2 72 (omega arith) (λ y x e f g h i j l o. absurd (omega arith)) a k in
-      let both = holds_as r c first 18 0 m' (omega arith) (omega arith) (omega arith) (omega arith) (holds-beside r c first 18 0 2 (4 * (4 * n - 1) + 2) left b) in
-      let all = holds-beside r c first 18 0 m' (m' + 2) (holds_kept r c first 18 0 m' first 18 m' (m' + 2) (omega arith) (λ y x e f g h i j l o. absurd (omega arith)) both m) d in
+      let both = holds_as r c first 18 0 m' (omega arith) (omega arith) (omega arith) (omega arith) (holds_beside r c first 18 0 2 (4 * (4 * n - 1) + 2) left b) in
+      let all = holds_beside r c first 18 0 m' (m' + 2) (holds_kept r c first 18 0 m' first 18 m' (m' + 2) (omega arith) (λ y x e f g h i j l o. absurd (omega arith)) both m) d in
       record { there = λ y x e f g h i j. all.there y x e f g (omega arith) i j }
 
 -- ---- a group's macroblocks, and those below them, are macroblocks of the picture
 
-pub group-inside : (size : Size) (r c n : ℕ) (cells : Cells) {dc low high : List ℤ} → cells.dc ≡ r * size.width.0 + c → OfOne cells → r < size.height.0 → c + n ≤ size.width.0 → Planes size dc low high
+pub group_inside : (size : Size) (r c n : ℕ) (cells : Cells) {dc low high : List ℤ} → cells.dc ≡ r * size.width.0 + c → OfOne cells → r < size.height.0 → c + n ≤ size.width.0 → Planes size dc low high
     → (cells.dc + n ≤ length dc) × (cells.low + 15 * n ≤ length low) × (cells.high + 240 * n ≤ length high)
-group-inside size r c n cells place one h k p =
+group_inside size r c n cells place one h k p =
     let W = size.width.0 in
     let all : cells.dc + n ≤ macroblocks size = omega (arith, row_inside r size.height.0 W h) in
     (omega (arith, all, p.of-dc), omega (arith, all, p.of_low), omega (arith, all, p.of-high))
@@ -248,8 +248,8 @@ none_below size r c n strip blocks e =
 
 -- ---- how far the strip has gone
 
-pub through-none : (size : Size) (samples : List ℤ) (blocks : ℕ → List ℤ) → Through size samples 0 blocks
-through-none size samples blocks = record { done = λ t h. absurd (omega arith); parked = λ t j h k l e f g. absurd (omega arith) }
+pub through_none : (size : Size) (samples : List ℤ) (blocks : ℕ → List ℤ) → Through size samples 0 blocks
+through_none size samples blocks = record { done = λ t h. absurd (omega arith); parked = λ t j h k l e f g. absurd (omega arith) }
 
-pub through-as : {size : Size} {samples : List ℤ} {n : ℕ} {blocks : ℕ → List ℤ} (m : ℕ) → n ≡ m → Through size samples n blocks → Through size samples m blocks
-through-as {size} {samples} {n} {blocks} m e d = subst (λ (k : ℕ). Through size samples k blocks) e d
+pub through_as : {size : Size} {samples : List ℤ} {n : ℕ} {blocks : ℕ → List ℤ} (m : ℕ) → n ≡ m → Through size samples n blocks → Through size samples m blocks
+through_as {size} {samples} {n} {blocks} m e d = subst (λ (k : ℕ). Through size samples k blocks) e d

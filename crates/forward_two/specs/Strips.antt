@@ -5,7 +5,7 @@ use Rattle.figures.specs.Figures.{core}
 use Rattle.transform.specs.Level.{cell}
 use Rattle.picture.specs.Sizes.{macroblocks, Sized}
 use Rattle.picture.specs.declared.size.Size.{Size}
-use Rattle.forward_two_cores.specs.Blocks.{squareIn, Among}
+use Rattle.forward_two_cores.specs.Blocks.{square_in, Among}
 use Rattle.forward_two_parked.specs.Parked.{place_in}
 use Rattle.forward_two_edges.specs.Unfiltered.{unfiltered}
 
@@ -16,9 +16,9 @@ pub record Carried (size : Size) (samples : List ℤ) (r c first : ℕ) (strip :
 
 -- the first n macroblocks are done, and the upper blocks of the next row of them hold the numbers that they begin with, but for the first row of a picture
 pub record Through (size : Size) (samples : List ℤ) (n : ℕ) (blocks : ℕ → List ℤ) : Type 0 where
-  pub done : (t : ℕ) → t / 16 < n → blocks t ≡ undo core (squareIn size.width.0 (unfiltered size samples) t)
+  pub done : (t : ℕ) → t / 16 < n → blocks t ≡ undo core (square_in size.width.0 (unfiltered size samples) t)
   pub parked : (t j : ℕ) → n ≤ t / 16 → t / 16 < n + size.width.0 → size.width.0 ≤ t / 16 → t / 16 < macroblocks size → t % 16 < 4 → j < 8
-      → at (blocks t) j ≡ at (squareIn size.width.0 (unfiltered size samples) t) j
+      → at (blocks t) j ≡ at (square_in size.width.0 (unfiltered size samples) t) j
 
 -- planes of a picture's lengths
 pub record Planes (size : Size) (dc low high : List ℤ) : Type 0 where

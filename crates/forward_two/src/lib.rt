@@ -5,10 +5,10 @@ ghost use Rattle.std.specs.Prelude.{◌≡◌, ℕ, ◌+◌, ◌*◌, ◌/◌, �
 ghost use Rattle.lifting.specs.Program.{undo, at as number};
 ghost use Rattle.lifting.specs.Wraps.{Within};
 ghost use Rattle.transform.specs.Level.{cell, level, cores as coresOf};
-ghost use Rattle.transform.specs.Grids.{firstGrid, secondGrid};
+ghost use Rattle.transform.specs.Grids.{first_grid, second_grid};
 ghost use Rattle.picture.specs.Sizes.{macroblocks, Sized};
 ghost use Rattle.forward_two_cores.specs.Cells.{OfOne};
-ghost use Rattle.forward_two_cores.specs.Blocks.{block_of, undoneIn, Among};
+ghost use Rattle.forward_two_cores.specs.Blocks.{block_of, undone_in, Among};
 ghost use Rattle.forward_two_edges.specs.Unfiltered.{unfiltered};
 ghost use Rattle.forward_two_edges.specs.Strip.{Holds, Kept, Given, Rows};
 ghost use Rattle.forward_two.specs.Strips.{Carried, Through, Planes, Lowered};
@@ -126,7 +126,7 @@ fn cores(strip: &[i32], dc: &mut [i32], low: &mut [i32], high: &mut [i32], cells
     requires strip_len { (length strip.now ≡ 1296) × (n ≤ 4) }
     requires of_one { OfOne cells }
     requires n_in_bounds { (cells.dc + n ≤ length dc.old) × (cells.low + 15 * n ≤ length low.old) × (cells.high + 240 * n ≤ length high.old) }
-    ensures by_index { (t b : ℕ) → b < n → t / 16 ≡ cells.dc + b → block_of dc.new low.new high.new t ≡ undoneIn 72 (16 * b) strip.now (t % 16) }
+    ensures by_index { (t b : ℕ) → b < n → t / 16 ≡ cells.dc + b → block_of dc.new low.new high.new t ≡ undone_in 72 (16 * b) strip.now (t % 16) }
     ensures by_index_2 { (t : ℕ) → (Among cells.dc (cells.dc + n) t → ⊥) → block_of dc.new low.new high.new t ≡ block_of dc.old low.old high.old t }
 {
     for b in 0..n {
@@ -315,7 +315,7 @@ fn undo_filtered(
 ) -> bool
     requires sized { Sized size × (length samples.now ≡ 256 * macroblocks size) }
     requires planes { Planes size dc.old low.old high.old }
-    ensures high_after { secondGrid size.width.0 size.height.0 (firstGrid size.width.0 size.height.0 dc.new low.new) high.new ≡ undo (coresOf (4 * size.width.0) (4 * size.height.0)) (unfiltered size samples.now) }
+    ensures high_after { second_grid size.width.0 size.height.0 (first_grid size.width.0 size.height.0 dc.new low.new) high.new ≡ undo (coresOf (4 * size.width.0) (4 * size.height.0)) (unfiltered size samples.now) }
     ensures within { result ≡ false → Within 33554432 samples.now }
 {
     let across = size.width.0 as usize;
@@ -355,7 +355,7 @@ pub fn undo_level_two(
     requires sized { Sized size }
     requires samples_len { length samples.now ≡ 256 * macroblocks size }
     requires dc_len { (length dc.old ≡ macroblocks size) × (length low.old ≡ 15 * macroblocks size) × (length high.old ≡ 240 * macroblocks size) }
-    ensures high_after { secondGrid size.width.0 size.height.0 (firstGrid size.width.0 size.height.0 dc.new low.new) high.new ≡
+    ensures high_after { second_grid size.width.0 size.height.0 (first_grid size.width.0 size.height.0 dc.new low.new) high.new ≡
         undo (level filtered (4 * size.width.0) (4 * size.height.0)) samples.now }
     ensures within { result ≡ false → Within 33554432 samples.now }
 {

@@ -4,22 +4,22 @@ use Rattle.lifting.specs.Program.{at, get}
 use Rattle.transform.specs.Level.{cell, square}
 use Rattle.picture.specs.Table.{table}
 use Rattle.transform.specs.Grids.{coefficients, block_at}
-use Rattle.forward_kernel.specs.Placed.{blockIn, undoneAt}
+use Rattle.forward_kernel.specs.Placed.{block_in, undone_at}
 
 -- coefficient 0 of block t, in the order of the high-pass plane: those of a macroblock's sixteen blocks are its DC and low-pass numbers, as a block of level one
 abbrev pub zero_of : List ℤ → List ℤ → ℕ → ℤ
-zero_of dc low t = at (blockIn dc low (t / 16)) (t % 16)
+zero_of dc low t = at (block_in dc low (t / 16)) (t % 16)
 
 unfoldable pub block_of : List ℤ → List ℤ → List ℤ → ℕ → List ℤ
 block_of dc low high t = table 16 (coefficients (zero_of dc low t) (λ k. at high (15 * t + k)))
 
 -- the same block's square in the samples of a picture W macroblocks wide
-unfoldable pub squareIn : ℕ → List ℤ → ℕ → List ℤ
-squareIn W samples t = get (square (4 * (4 * W)) (cell (4 * W) (4 * (block_at W t / (4 * W))) (4 * (block_at W t % (4 * W))))) samples
+unfoldable pub square_in : ℕ → List ℤ → ℕ → List ℤ
+square_in W samples t = get (square (4 * (4 * W)) (cell (4 * W) (4 * (block_at W t / (4 * W))) (4 * (block_at W t % (4 * W))))) samples
 
 -- block k of a macroblock whose first number stands at place i of a grid of w columns, its core undone
-abbrev pub undoneIn : ℕ → ℕ → List ℤ → ℕ → List ℤ
-undoneIn w i grid k = undoneAt w (i + 4 * (k / 4) * w + 4 * (k % 4)) grid
+abbrev pub undone_in : ℕ → ℕ → List ℤ → ℕ → List ℤ
+undone_in w i grid k = undone_at w (i + 4 * (k / 4) * w + 4 * (k % 4)) grid
 
 -- block t is one of macroblocks m to n - 1
 abbrev pub Among : ℕ → ℕ → ℕ → Type 0

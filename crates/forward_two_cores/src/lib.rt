@@ -6,11 +6,11 @@ ghost use Rattle.lifting.specs.Program.{at as number, undo};
 ghost use Rattle.lifting.specs.Wraps.{Within};
 ghost use Rattle.figures.specs.Figures.{core};
 ghost use Rattle.transform.specs.Level.{cores};
-ghost use Rattle.transform.specs.Grids.{firstGrid, secondGrid};
+ghost use Rattle.transform.specs.Grids.{first_grid, second_grid};
 ghost use Rattle.picture.specs.Sizes.{macroblocks, Sized};
 ghost use Rattle.forward_two_cores.specs.Cells.{OfOne};
 ghost use Rattle.large_numbers.specs.Small.{Small};
-ghost use Rattle.forward_two_cores.specs.Blocks.{zero_of, block_of, squareIn, undoneIn, Among, InRows, Replaced};
+ghost use Rattle.forward_two_cores.specs.Blocks.{zero_of, block_of, square_in, undone_in, Among, InRows, Replaced};
 
 use crate::cells::Cells;
 use forward_kernel::undo_four_cores;
@@ -47,7 +47,7 @@ pub fn undo_macroblock(
     requires w_in_bounds { at + 15 * w + 15 < length grid.now }
     requires of_one { OfOne cells }
     requires dc_in_bounds { (cells.dc < length dc.old) × (cells.low + 14 < length low.old) × (cells.high + 239 < length high.old) }
-    ensures { Replaced (λ t. t / 16 ≡ cells.dc) (λ t. undoneIn w at grid.now (t % 16))
+    ensures { Replaced (λ t. t / 16 ≡ cells.dc) (λ t. undone_in w at grid.now (t % 16))
         (block_of dc.old low.old high.old) (block_of dc.new low.new high.new) }
 {
     let mut row = at;
@@ -76,7 +76,7 @@ fn undo_block_row(
     requires at_value { (at ≡ y * (64 * size.width.0)) × (cells.dc ≡ y / 4 * size.width.0) × OfOne cells }
     requires samples_len { length samples.now ≡ 256 * macroblocks size }
     requires dc_len { (length dc.old ≡ macroblocks size) × (length low.old ≡ 15 * macroblocks size) × (length high.old ≡ 240 * macroblocks size) }
-    ensures replaced { Replaced (InRows (y % 4) (y % 4 + 1) cells.dc (cells.dc + size.width.0)) (λ t. undo core (squareIn size.width.0 samples.now t))
+    ensures replaced { Replaced (InRows (y % 4) (y % 4 + 1) cells.dc (cells.dc + size.width.0)) (λ t. undo core (square_in size.width.0 samples.now t))
         (block_of dc.old low.old high.old) (block_of dc.new low.new high.new) }
     ensures small { result ≡ false → Small samples.now at (at + 64 * size.width.0) }
 {
@@ -107,7 +107,7 @@ fn undo_row(
     requires at_value { (at ≡ r * (256 * size.width.0)) × (cells.dc ≡ r * size.width.0) × OfOne cells }
     requires samples_len { length samples.now ≡ 256 * macroblocks size }
     requires dc_len { (length dc.old ≡ macroblocks size) × (length low.old ≡ 15 * macroblocks size) × (length high.old ≡ 240 * macroblocks size) }
-    ensures replaced { Replaced (Among (r * size.width.0) (r * size.width.0 + size.width.0)) (λ t. undo core (squareIn size.width.0 samples.now t))
+    ensures replaced { Replaced (Among (r * size.width.0) (r * size.width.0 + size.width.0)) (λ t. undo core (square_in size.width.0 samples.now t))
         (block_of dc.old low.old high.old) (block_of dc.new low.new high.new) }
     ensures small { result ≡ false → Small samples.now at (at + 256 * size.width.0) }
 {
@@ -133,7 +133,7 @@ pub fn undo_cores(
     requires sized { Sized size }
     requires samples_len { length samples.now ≡ 256 * macroblocks size }
     requires dc_len { (length dc.old ≡ macroblocks size) × (length low.old ≡ 15 * macroblocks size) × (length high.old ≡ 240 * macroblocks size) }
-    ensures high_after { secondGrid size.width.0 size.height.0 (firstGrid size.width.0 size.height.0 dc.new low.new) high.new ≡
+    ensures high_after { second_grid size.width.0 size.height.0 (first_grid size.width.0 size.height.0 dc.new low.new) high.new ≡
         undo (cores (4 * size.width.0) (4 * size.height.0)) samples.now }
     ensures within { result ≡ false → Within 33554432 samples.now }
 {

@@ -13,17 +13,17 @@ use Rattle.lifting.specs.Program.{at, get, put, undo}
 use Rattle.lifting.proofs.Reverse.{get-put, length-put}
 use Rattle.lifting.proofs.Locality.{agree_refl, put_keeps}
 use Rattle.figures.specs.Block.{four}
-use Rattle.figures.specs.Figures.{fourFilter}
+use Rattle.figures.specs.Figures.{four_filter}
 use Rattle.transform.specs.Level.{cell, strip as line, corner, filters}
 use Rattle.picture.specs.Sizes.{macroblocks, Sized}
 use Rattle.picture.specs.declared.size.Size.{Size}
 use Rattle.transform.proofs.Levels.{corner-places}
-use Rattle.picture.proofs.CheckLaws.{few-macroblocks}
+use Rattle.picture.proofs.CheckLaws.{few_macroblocks}
 use Rattle.grid.proofs.Rows.{row_inside}
 use Rattle.forward_kernel.proofs.Stores.{below-four}
 use Rattle.forward_two_edges.specs.Unfiltered.{unfiltered, Edge, First}
 use Rattle.forward_two_edges.specs.declared.place.Place.{Place}
-use Rattle.forward_two_edges.specs.Strip.{Holds, Kept, Given, Rows, Stands, Spread, Columns, unfilteredAt}
+use Rattle.forward_two_edges.specs.Strip.{Holds, Kept, Given, Rows, Stands, Spread, Columns, unfiltered_at}
 use Rattle.forward_two_edges.proofs.Alone.{first_edge}
 use Rattle.forward_two_edges.proofs.Numbers.{cell-low, at-four, row_at, column-at, corner-at}
 
@@ -32,8 +32,8 @@ use Rattle.forward_two_edges.proofs.Numbers.{cell-low, at-four, row_at, column-a
 pub spread_none : (i step : ℕ) (f : ℕ → ℤ) (v : List ℤ) → Spread i step 0 f v v
 spread_none i step f v = record { len = refl; own = λ k h. absurd (omega arith); others = λ j h. refl }
 
-spread-next : (i step n : ℕ) (f : ℕ → ℤ) {old mid : List ℤ} (j : ℕ) {x : ℤ} → 0 < step → j ≡ i + n * step → j < length old → x ≡ f n → Spread i step n f old mid → Spread i step (n + 1) f old (set mid j x)
-spread-next i step n f {old} {mid} j {x} far e room q p = record {
+spread_next : (i step n : ℕ) (f : ℕ → ℤ) {old mid : List ℤ} (j : ℕ) {x : ℤ} → 0 < step → j ≡ i + n * step → j < length old → x ≡ f n → Spread i step n f old mid → Spread i step (n + 1) f old (set mid j x)
+spread_next i step n f {old} {mid} j {x} far e room q p = record {
   len = length-set mid j x ∙ p.len;
   own = λ k h. by_cases (ℕ_discrete k n)
       (λ y. ap (at (set mid j x)) (ap (λ (m : ℕ). i + m * step) y ∙ sym e) ∙ get_or-set_same mid j x (pos 0) (omega (arith, p.len)) ∙ q ∙ ap f (sym y))
@@ -42,25 +42,25 @@ spread-next i step n f {old} {mid} j {x} far e room q p = record {
 }
 
 -- a four of samples read, unfiltered and stored
-pub spread-four : (samples : List ℤ) (step a i far : ℕ) (x v : List ℤ) {old new : List ℤ} → 0 < far → i + far + far + far < length old → four x ≡ get (line step a) samples → four v ≡ undo fourFilter (four x)
-    → new ≡ put (line far i) (four v) old → Spread i far 4 (at (unfilteredAt samples step a)) old new
-unfolding put unfilteredAt
-spread-four samples step a i far x v {old} {new} some room e g w =
-    let f = at (unfilteredAt samples step a) in
-    let q : (k : ℕ) → k < 4 → at v k ≡ f k = λ k h. below-four (λ j. at v j ≡ at (four v) j) refl refl refl refl k h ∙ ap (λ y. at y k) (g ∙ ap (undo fourFilter) e) in
+pub spread_four : (samples : List ℤ) (step a i far : ℕ) (x v : List ℤ) {old new : List ℤ} → 0 < far → i + far + far + far < length old → four x ≡ get (line step a) samples → four v ≡ undo four_filter (four x)
+    → new ≡ put (line far i) (four v) old → Spread i far 4 (at (unfiltered_at samples step a)) old new
+unfolding put unfiltered_at
+spread_four samples step a i far x v {old} {new} some room e g w =
+    let f = at (unfiltered_at samples step a) in
+    let q : (k : ℕ) → k < 4 → at v k ≡ f k = λ k h. below-four (λ j. at v j ≡ at (four v) j) refl refl refl refl k h ∙ ap (λ y. at y k) (g ∙ ap (undo four_filter) e) in
     rw w
-    (spread-next i far 3 f (i + far + far + far) some (omega arith) (omega arith) (q 3 (omega arith))
-    (spread-next i far 2 f (i + far + far) some (omega arith) (omega arith) (q 2 (omega arith))
-    (spread-next i far 1 f (i + far) some (omega arith) (omega arith) (q 1 (omega arith)) (spread-next i far 0 f i some (omega arith) (omega arith) (q 0 (omega arith)) (spread_none i far f old)))))
+    (spread_next i far 3 f (i + far + far + far) some (omega arith) (omega arith) (q 3 (omega arith))
+    (spread_next i far 2 f (i + far + far) some (omega arith) (omega arith) (q 2 (omega arith))
+    (spread_next i far 1 f (i + far) some (omega arith) (omega arith) (q 1 (omega arith)) (spread_next i far 0 f i some (omega arith) (omega arith) (q 0 (omega arith)) (spread_none i far f old)))))
 
 -- number j of the unfiltered fours that follow one another from place a on
-abbrev pub foursFrom : List ℤ → ℕ → ℕ → ℕ → ℤ
-foursFrom samples step a j = at (unfilteredAt samples step (a + 4 * step * (j / 4))) (j % 4)
+abbrev pub fours_from : List ℤ → ℕ → ℕ → ℕ → ℤ
+fours_from samples step a j = at (unfiltered_at samples step (a + 4 * step * (j / 4))) (j % 4)
 
 -- one four more
-pub spread-more : (samples : List ℤ) (step a i far n b j : ℕ) {old mid new : List ℤ} → 0 < far → b ≡ a + 4 * step * n → j ≡ i + 4 * n * far
-    → Spread i far (4 * n) (foursFrom samples step a) old mid → Spread j far 4 (at (unfilteredAt samples step b)) mid new → Spread i far (4 * (n + 1)) (foursFrom samples step a) old new
-spread-more samples step a i far n b j {old} {mid} {new} some here e p q =
+pub spread_more : (samples : List ℤ) (step a i far n b j : ℕ) {old mid new : List ℤ} → 0 < far → b ≡ a + 4 * step * n → j ≡ i + 4 * n * far
+    → Spread i far (4 * n) (fours_from samples step a) old mid → Spread j far 4 (at (unfiltered_at samples step b)) mid new → Spread i far (4 * (n + 1)) (fours_from samples step a) old new
+spread_more samples step a i far n b j {old} {mid} {new} some here e p q =
     record {
       len = q.len ∙ p.len;
       own = λ k h. by_cases (dec_lt k (4 * n))
@@ -69,7 +69,7 @@ spread-more samples step a i far n b j {old} {mid} {new} some here e p q =
           let m = k - 4 * n in
           let d : 4 * n * far + m * far ≡ k * far = sym (add-mul (4 * n) m far) ∙ ap (λ (o : ℕ). o * far) (omega (arith, l)) in
           ap (at new) (omega (arith, d, e)) ∙ q.own m (omega (arith, l))
-          ∙ ap₂ (λ (o u : ℕ). at (unfilteredAt samples step o) u) (here ∙ ap (λ (o : ℕ). a + 4 * step * o) (omega (arith, l))) (omega (arith, l)));
+          ∙ ap₂ (λ (o u : ℕ). at (unfiltered_at samples step o) u) (here ∙ ap (λ (o : ℕ). a + 4 * step * o) (omega (arith, l))) (omega (arith, l)));
       others = λ k h. q.others k (λ m o y. h (4 * n + m) (omega arith) (y ∙ e' m)) ∙ p.others k (λ m o. h m (omega arith));
     }
   where
@@ -78,18 +78,18 @@ spread-more samples step a i far n b j {old} {mid} {new} some here e p q =
 
 -- ---- numbers down two columns
 
-pub columns-none : (i : ℕ) (f : ℕ → ℕ → ℤ) (v : List ℤ) → Columns i 0 f v v
-columns-none i f v = record { len = refl; own = λ b k h l. absurd (omega arith); others = λ j h. refl }
+pub columns_none : (i : ℕ) (f : ℕ → ℕ → ℤ) (v : List ℤ) → Columns i 0 f v v
+columns_none i f v = record { len = refl; own = λ b k h l. absurd (omega arith); others = λ j h. refl }
 
 -- number j of the unfiltered fours in column b, of which the first begins at place a
-abbrev pub foursDown : List ℤ → ℕ → ℕ → ℕ → ℕ → ℤ
-foursDown samples w a b j = at (unfilteredAt samples w (a + b + 4 * w * (j / 4))) (j % 4)
+abbrev pub fours_down : List ℤ → ℕ → ℕ → ℕ → ℕ → ℤ
+fours_down samples w a b j = at (unfiltered_at samples w (a + b + 4 * w * (j / 4))) (j % 4)
 
 -- one four more in each
-pub columns-more : (samples : List ℤ) (w a i n p q j k : ℕ) {old mid one new : List ℤ} → p ≡ a + 4 * w * n → q ≡ a + 1 + 4 * w * n → j ≡ i + 288 * n → k ≡ i + 1 + 288 * n
-    → Columns i (4 * n) (foursDown samples w a) old mid → Spread j 72 4 (at (unfilteredAt samples w p)) mid one → Spread k 72 4 (at (unfilteredAt samples w q)) one new
-    → Columns i (4 * (n + 1)) (foursDown samples w a) old new
-columns-more samples w a i n p q j k {old} {mid} {one} {new} here there e f c d g =
+pub columns_more : (samples : List ℤ) (w a i n p q j k : ℕ) {old mid one new : List ℤ} → p ≡ a + 4 * w * n → q ≡ a + 1 + 4 * w * n → j ≡ i + 288 * n → k ≡ i + 1 + 288 * n
+    → Columns i (4 * n) (fours_down samples w a) old mid → Spread j 72 4 (at (unfiltered_at samples w p)) mid one → Spread k 72 4 (at (unfiltered_at samples w q)) one new
+    → Columns i (4 * (n + 1)) (fours_down samples w a) old new
+columns_more samples w a i n p q j k {old} {mid} {one} {new} here there e f c d g =
     record {
       len = g.len ∙ d.len ∙ c.len;
       own = λ b m hb hm. by_cases (dec_lt m (4 * n))
@@ -101,8 +101,8 @@ columns-more samples w a i n p q j k {old} {mid} {one} {new} here there e f c d 
           ∙ d.others m (λ u o y. h 0 (4 * n + u) (omega arith) (omega arith) (omega (arith, y))) ∙ c.others m (λ b u hb hu. h b u hb (omega arith));
     }
   where
-    same : (b m r : ℕ) → r ≡ a + b + 4 * w * n → m < 4 * (n + 1) → ¬ (m < 4 * n) → at (unfilteredAt samples w r) (m - 4 * n) ≡ foursDown samples w a b m
-    same b m r x hm l = ap₂ (λ (o u : ℕ). at (unfilteredAt samples w o) u) (x ∙ ap (λ (o : ℕ). a + b + 4 * w * o) (omega (arith, l))) (omega (arith, l))
+    same : (b m r : ℕ) → r ≡ a + b + 4 * w * n → m < 4 * (n + 1) → ¬ (m < 4 * n) → at (unfiltered_at samples w r) (m - 4 * n) ≡ fours_down samples w a b m
+    same b m r x hm l = ap₂ (λ (o u : ℕ). at (unfiltered_at samples w o) u) (x ∙ ap (λ (o : ℕ). a + b + 4 * w * o) (omega (arith, l))) (omega (arith, l))
 
 -- ---- rows and columns that join
 
@@ -111,24 +111,24 @@ module _ {size : Size} {samples : List ℤ} (r c : ℕ) where
       → Holds size samples r c t b l k old → Kept t' b' l' k' old new → Holds size samples r c t b l k new
   holds_kept t b l k t' b' l' k' h apart d e = record { there = λ y x f g m n u v. e.same y x (omega arith) (apart y x f g m n) ∙ d.there y x f g m n u v }
 
-  pub holds-under : (t m b l k : ℕ) {v : List ℤ} → Holds size samples r c t m l k v → Holds size samples r c m b l k v → Holds size samples r c t b l k v
-  holds-under t m b l k d e = record { there = λ y x f g n o u v. by_cases (dec_lt y m) (λ z. d.there y x f z n o u v) (λ z. e.there y x (omega (arith, z)) g n o u v) }
+  pub holds_under : (t m b l k : ℕ) {v : List ℤ} → Holds size samples r c t m l k v → Holds size samples r c m b l k v → Holds size samples r c t b l k v
+  holds_under t m b l k d e = record { there = λ y x f g n o u v. by_cases (dec_lt y m) (λ z. d.there y x f z n o u v) (λ z. e.there y x (omega (arith, z)) g n o u v) }
 
-  pub holds-beside : (t b l m k : ℕ) {v : List ℤ} → Holds size samples r c t b l m v → Holds size samples r c t b m k v → Holds size samples r c t b l k v
-  holds-beside t b l m k d e = record { there = λ y x f g n o u v. by_cases (dec_lt x m) (λ z. d.there y x f g n z u v) (λ z. e.there y x f g (omega (arith, z)) o u v) }
+  pub holds_beside : (t b l m k : ℕ) {v : List ℤ} → Holds size samples r c t b l m v → Holds size samples r c t b m k v → Holds size samples r c t b l k v
+  holds_beside t b l m k d e = record { there = λ y x f g n o u v. by_cases (dec_lt x m) (λ z. d.there y x f g n z u v) (λ z. e.there y x f g (omega (arith, z)) o u v) }
 
   pub holds_as : {t b l k : ℕ} (t' b' l' k' : ℕ) {v : List ℤ} → t ≤ t' → b' ≤ b → l ≤ l' → k' ≤ k → Holds size samples r c t b l k v → Holds size samples r c t' b' l' k' v
   holds_as t' b' l' k' e f g h d = record { there = λ y x m n o p u v. d.there y x (omega arith) (omega arith) (omega arith) (omega arith) u v }
 
   -- one more row
-  pub holds-next : (t y l k : ℕ) {old new : List ℤ} → k ≤ 72 → Holds size samples r c t y l k old → Holds size samples r c y (y + 1) l k new → Kept y (y + 1) l k old new → Holds size samples r c t (y + 1) l k new
-  holds-next t y l k h d e f = holds-under t y (y + 1) l k (holds_kept t y l k y (y + 1) l k h (λ z x a b m n u v o w. absurd (omega arith)) d f) e
+  pub holds_next : (t y l k : ℕ) {old new : List ℤ} → k ≤ 72 → Holds size samples r c t y l k old → Holds size samples r c y (y + 1) l k new → Kept y (y + 1) l k old new → Holds size samples r c t (y + 1) l k new
+  holds_next t y l k h d e f = holds_under t y (y + 1) l k (holds_kept t y l k y (y + 1) l k h (λ z x a b m n u v o w. absurd (omega arith)) d f) e
 
 pub kept-none : (t b l k : ℕ) (v : List ℤ) → Kept t b l k v v
 kept-none t b l k v = record { len = refl; same = λ y x h n. refl }
 
-pub kept-as : {t b l k : ℕ} (t' b' l' k' : ℕ) {old new : List ℤ} → t' ≤ t → b ≤ b' → l' ≤ l → k ≤ k' → Kept t b l k old new → Kept t' b' l' k' old new
-kept-as t' b' l' k' e f g h d = record { len = d.len; same = λ y x m n. d.same y x m (λ p q u v. n (omega arith) (omega arith) (omega arith) (omega arith)) }
+pub kept_as : {t b l k : ℕ} (t' b' l' k' : ℕ) {old new : List ℤ} → t' ≤ t → b ≤ b' → l' ≤ l → k ≤ k' → Kept t b l k old new → Kept t' b' l' k' old new
+kept_as t' b' l' k' e f g h d = record { len = d.len; same = λ y x m n. d.same y x m (λ p q u v. n (omega arith) (omega arith) (omega arith) (omega arith)) }
 
 pub kept_then : {t b l k : ℕ} {old mid new : List ℤ} → Kept t b l k old mid → Kept t b l k mid new → Kept t b l k old new
 kept_then d e = record { len = e.len ∙ d.len; same = λ y x m n. e.same y x m n ∙ d.same y x m n }
@@ -136,8 +136,8 @@ kept_then d e = record { len = e.len ∙ d.len; same = λ y x m n. e.same y x m 
 -- ---- row after row
 
 -- the same picture with another strip
-pub given-of : {size : Size} {r c : ℕ} {samples old new : List ℤ} → Given size r c samples old → length new ≡ 1296 → Given size r c samples new
-given-of g e = record { sized = g.sized; below = g.below; beside = g.beside; of-samples = g.of-samples; of-strip = e }
+pub given_of : {size : Size} {r c : ℕ} {samples old new : List ℤ} → Given size r c samples old → length new ≡ 1296 → Given size r c samples new
+given_of g e = record { sized = g.sized; below = g.below; beside = g.beside; of-samples = g.of-samples; of-strip = e }
 
 -- of rows top to bottom, those before row y are there, and nothing outside them has changed
 pub record Made (size : Size) (samples : List ℤ) (r c top bottom left right y : ℕ) (old new : List ℤ) : Type 0 where
@@ -149,11 +149,11 @@ pub made_none : (size : Size) (samples : List ℤ) (r c t b l k : ℕ) (v : List
 made_none size samples r c t b l k v = record { from = omega arith; holds = record { there = λ y x f g h i u v. absurd (omega arith) }; kept = kept-none t b l k v }
 
 module _ {size : Size} {samples : List ℤ} (r c t b l k y : ℕ) {old mid : List ℤ} (m : Made size samples r c t b l k y old mid) where
-  pub made-next : {new : List ℤ} → k ≤ 72 → y < b → Holds size samples r c y (y + 1) l k new × Kept y (y + 1) l k mid new → Made size samples r c t b l k (y + 1) old new
-  made-next few below e = record {
+  pub made_next : {new : List ℤ} → k ≤ 72 → y < b → Holds size samples r c y (y + 1) l k new × Kept y (y + 1) l k mid new → Made size samples r c t b l k (y + 1) old new
+  made_next few below e = record {
     from = omega (arith, m.from);
-    holds = holds-next r c t y l k few m.holds e.0 e.1;
-    kept = kept_then m.kept (kept-as t b l k m.from (omega arith) (omega arith) (omega arith) e.1);
+    holds = holds_next r c t y l k few m.holds e.0 e.1;
+    kept = kept_then m.kept (kept_as t b l k m.from (omega arith) (omega arith) (omega arith) e.1);
   }
 
   pub made_all : b ≤ y → Holds size samples r c t b l k mid × Kept t b l k old mid
@@ -166,12 +166,12 @@ pub place-low : (size : Size) → Sized size → (y x : ℕ) {a : ℕ} → a ≡
 place-low size z y x e h k =
     let W = size.width.0 in
     let H = size.height.0 in
-    (omega (arith, e, cell-low (4 * W) (4 * H) y x (omega arith) (omega arith)), omega (arith, few-macroblocks z))
+    (omega (arith, e, cell-low (4 * W) (4 * H) y x (omega arith) (omega arith)), omega (arith, few_macroblocks z))
 
 -- the place of a later row is small too
-pub later-row-few : {size : Size} {r c : ℕ} {samples strip : List ℤ} → Given size r c samples strip → (y x a : ℕ) → a ≡ cell (4 * size.width.0) (16 * r + y) (16 * c + x) → 16 * r + y < 16 * size.height.0
+pub later_row_few : {size : Size} {r c : ℕ} {samples strip : List ℤ} → Given size r c samples strip → (y x a : ℕ) → a ≡ cell (4 * size.width.0) (16 * r + y) (16 * c + x) → 16 * r + y < 16 * size.height.0
     → 16 * c + x < 16 * size.width.0 → a + 64 * size.width.0 ≤ 55540800
-later-row-few {size} {r} {c} g y x a e h k = omega (arith, place-low size g.sized (16 * r + y) (16 * c + x) e h k, g.sized.most-wide)
+later_row_few {size} {r} {c} g y x a e h k = omega (arith, place-low size g.sized (16 * r + y) (16 * c + x) e h k, g.sized.most-wide)
 
 -- ---- what a line settles
 
@@ -186,18 +186,18 @@ module _ (size : Size) (samples : List ℤ) (wide : 0 < size.width.0) (tall : 0 
   room = len ∙ omega arith
 
   -- n fours of row y
-  pub row-filled : (y n a i : ℕ) {old new : List ℤ} → n ≤ 16 → 4 * c + n < 4 * W → Edge (4 * H) (16 * r + y) → 16 * r + y < 16 * H → a ≡ (16 * r + y) * (16 * W) + 16 * c + 2 → i ≡ 72 * y + 2
-      → Spread i 1 (4 * n) (foursFrom samples 1 a) old new
+  pub row_filled : (y n a i : ℕ) {old new : List ℤ} → n ≤ 16 → 4 * c + n < 4 * W → Edge (4 * H) (16 * r + y) → 16 * r + y < 16 * H → a ≡ (16 * r + y) * (16 * W) + 16 * c + 2 → i ≡ 72 * y + 2
+      → Spread i 1 (4 * n) (fours_from samples 1 a) old new
       → Holds size samples r c y (y + 1) 2 (4 * n + 2) new × Kept y (y + 1) 2 (4 * n + 2) old new
-  unfolding unfilteredAt unfiltered
-  row-filled y n a i {old} {new} few some edge low e p d = (
+  unfolding unfiltered_at unfiltered
+  row_filled y n a i {old} {new} few some edge low e p d = (
     record {
       there = λ z x f g h k u v.
           let j = x - 2 in
           let b = 4 * c + j / 4 in
           let same : z ≡ y = omega arith in
           ap (at new) (omega (arith, same)) ∙ d.own j (omega arith)
-          ∙ ap (λ (b : ℕ). at (undo fourFilter (get (line 1 b) samples)) (j % 4)) (omega (arith, e))
+          ∙ ap (λ (b : ℕ). at (undo four_filter (get (line 1 b) samples)) (j % 4)) (omega (arith, e))
           ∙ sym (row_at (4 * W) (4 * H) samples room (16 * r + y) b (j % 4) (omega arith) edge (omega arith) (omega arith))
           ∙ ap₂ (λ (m b : ℕ). at (undo (filters (4 * W) (4 * H)) samples) (cell (4 * W) (16 * r + m) b)) (sym same) (omega arith);
     },
@@ -205,17 +205,17 @@ module _ (size : Size) (samples : List ℤ) (wide : 0 < size.width.0) (tall : 0 
   )
 
   -- n fours of columns x and x + 1
-  pub columns-filled : (x n a i : ℕ) {old new : List ℤ} → x ≤ 70 → 4 * r + n < 4 * H → First (4 * W) (16 * c + x) → a ≡ (16 * r + 2) * (16 * W) + 16 * c + x → i ≡ 144 + x
-      → Columns i (4 * n) (foursDown samples (16 * W) a) old new
+  pub columns_filled : (x n a i : ℕ) {old new : List ℤ} → x ≤ 70 → 4 * r + n < 4 * H → First (4 * W) (16 * c + x) → a ≡ (16 * r + 2) * (16 * W) + 16 * c + x → i ≡ 144 + x
+      → Columns i (4 * n) (fours_down samples (16 * W) a) old new
       → Holds size samples r c 2 (4 * n + 2) x (x + 2) new × Kept 2 (4 * n + 2) x (x + 2) old new
-  unfolding unfilteredAt unfiltered
-  columns-filled x n a i {old} {new} few some first e f d = (
+  unfolding unfiltered_at unfiltered
+  columns_filled x n a i {old} {new} few some first e f d = (
     record {
       there = λ y z g h k l u v.
           let j = y - 2 in
           let m = 4 * r + j / 4 in
           ap (at new) (omega arith) ∙ d.own (z - x) j (omega arith) (omega arith)
-          ∙ ap₂ (λ (w b : ℕ). at (undo fourFilter (get (line w b) samples)) (j % 4)) (omega arith) (omega (arith, e))
+          ∙ ap₂ (λ (w b : ℕ). at (undo four_filter (get (line w b) samples)) (j % 4)) (omega arith) (omega (arith, e))
           ∙ sym (column-at (4 * W) (4 * H) samples room (16 * c + z) m (j % 4) (omega arith) (first_edge (4 * W) (16 * c + x) (16 * c + z) first (omega arith) (omega arith)) (omega arith) (omega arith))
           ∙ ap (λ (b : ℕ). at (undo (filters (4 * W) (4 * H)) samples) (cell (4 * W) b (16 * c + z))) (omega arith);
     },
@@ -223,12 +223,12 @@ module _ (size : Size) (samples : List ℤ) (wide : 0 < size.width.0) (tall : 0 
   )
 
   -- a corner in rows y and y + 1 and columns x and x + 1
-  pub corner-filled : (y x a i : ℕ) (u v : List ℤ) {old new : List ℤ} → x ≤ 70 → 72 * y + x + 73 < length old → First (4 * H) (16 * r + y) → First (4 * W) (16 * c + x)
+  pub corner_filled : (y x a i : ℕ) (u v : List ℤ) {old new : List ℤ} → x ≤ 70 → 72 * y + x + 73 < length old → First (4 * H) (16 * r + y) → First (4 * W) (16 * c + x)
       → a ≡ (16 * r + y) * (16 * W) + 16 * c + x → i ≡ 72 * y + x
-      → four u ≡ get (corner (16 * W) a) samples → four v ≡ undo fourFilter (four u) → new ≡ put (corner 72 i) (four v) old
+      → four u ≡ get (corner (16 * W) a) samples → four v ≡ undo four_filter (four u) → new ≡ put (corner 72 i) (four v) old
       → Holds size samples r c y (y + 2) x (x + 2) new × Kept y (y + 2) x (x + 2) old new
   unfolding unfiltered
-  corner-filled y x a i u v {old} {new} few room' fy fx e f read made stored = (
+  corner_filled y x a i u v {old} {new} few room' fy fx e f read made stored = (
     record {
       there = λ z w g h k l m n.
           let j = 2 * (z - y) + (w - x) in
@@ -236,7 +236,7 @@ module _ (size : Size) (samples : List ℤ) (wide : 0 < size.width.0) (tall : 0 
           let beside : x + j % 2 ≡ w = omega arith in
           ap₂ (λ (o q : ℕ). at new (72 * o + q)) (sym below) (sym beside)
           ∙ own j (omega arith)
-          ∙ ap₂ (λ (o b : ℕ). at (undo fourFilter (get (corner o b) samples)) j) (omega arith) (omega (arith, e))
+          ∙ ap₂ (λ (o b : ℕ). at (undo four_filter (get (corner o b) samples)) j) (omega arith) (omega (arith, e))
           ∙ sym (corner-at (4 * W) (4 * H) samples room (16 * r + y) (16 * c + x) j (omega arith) (omega arith) fy fx (omega arith))
           ∙ ap₂ (λ (o q : ℕ). at (undo (filters (4 * W) (4 * H)) samples) (cell (4 * W) o q)) (omega (arith, below)) (omega (arith, beside));
     },
@@ -254,10 +254,10 @@ module _ (size : Size) (samples : List ℤ) (wide : 0 < size.width.0) (tall : 0 
     },
   )
     where
-      own : (k : ℕ) → k < 4 → at new (72 * (y + k / 2) + (x + k % 2)) ≡ at (undo fourFilter (get (corner (16 * W) a) samples)) k
+      own : (k : ℕ) → k < 4 → at new (72 * (y + k / 2) + (x + k % 2)) ≡ at (undo four_filter (get (corner (16 * W) a) samples)) k
       own k h =
-          at-four (λ n. 72 * (y + n / 2) + (x + n % 2)) new (undo fourFilter (get (corner (16 * W) a) samples)) {a = i} {b = i + 1} {c = i + 72} {d = i + 72 + 1} (omega arith) (omega arith) (omega arith) (omega arith)
-          (ap (get (corner 72 i)) stored ∙ get-put (corner 72 i) (four v) old (corner-places 72 i (length old) (omega arith) (omega arith)) refl refl ∙ made ∙ ap (undo fourFilter) read) k h
+          at-four (λ n. 72 * (y + n / 2) + (x + n % 2)) new (undo four_filter (get (corner (16 * W) a) samples)) {a = i} {b = i + 1} {c = i + 72} {d = i + 72 + 1} (omega arith) (omega arith) (omega arith) (omega arith)
+          (ap (get (corner 72 i)) stored ∙ get-put (corner 72 i) (four v) old (corner-places 72 i (length old) (omega arith) (omega arith)) refl refl ∙ made ∙ ap (undo four_filter) read) k h
 
       away : (z w : ℕ) → (y ≤ z → z < y + 2 → x ≤ w → w < x + 2 → ⊥) → (m n : ℕ) → m < 2 → n < 2 → w < 72 → 72 * (y + m) + (x + n) ≡ 72 * z + w → ⊥
       away z w o m n hm hn h q = o (omega arith) (omega arith) (omega arith) (omega arith)
@@ -280,8 +280,8 @@ module _ {size : Size} {r first down : ℕ} (low : r < size.height.0) (rows : Ro
       which (inl k) = omega (arith, k)
       which (inr k) = absurd (omega (arith, k))
 
-  pub rows-down : (3 ≤ down) × (down ≤ 4) × (4 * r + down < 4 * size.height.0)
-  rows-down = which rows.bottom
+  pub rows_down : (3 ≤ down) × (down ≤ 4) × (4 * r + down < 4 * size.height.0)
+  rows_down = which rows.bottom
     where
       which : ((down ≡ 3) × (r + 1 ≡ size.height.0)) ⊎ ((down ≡ 4) × (r + 1 < size.height.0)) → (3 ≤ down) × (down ≤ 4) × (4 * r + down < 4 * size.height.0)
       which (inl h) = (omega (arith, h), omega (arith, h), omega (arith, h))
@@ -325,8 +325,8 @@ module _ {size : Size} {r first down : ℕ} (low : r < size.height.0) (rows : Ro
       which (inr e) = omega (arith, e, h)
 
   -- the rows above the windows, those of the windows and those below them
-  pub three-rows : {samples : List ℤ} (c l k : ℕ) {v : List ℤ} → Holds size samples r c first 2 l k v → Holds size samples r c 2 (4 * down + 2) l k v → Holds size samples r c (4 * down + 2) 16 l k v → Holds size samples r c first 18 l k v
-  three-rows c l k a b d =
+  pub three_rows : {samples : List ℤ} (c l k : ℕ) {v : List ℤ} → Holds size samples r c first 2 l k v → Holds size samples r c 2 (4 * down + 2) l k v → Holds size samples r c (4 * down + 2) 16 l k v → Holds size samples r c first 18 l k v
+  three_rows c l k a b d =
       record {
         there = λ y x f g m n u v.
             by_cases (dec_lt y 2) (λ z. a.there y x f z m n u v)
@@ -334,16 +334,16 @@ module _ {size : Size} {r first down : ℕ} (low : r < size.height.0) (rows : Ro
             (λ w. by_cases (dec_lt y 16) (λ o. d.there y x (omega (arith, w)) o m n u v) (λ o. absurd (beyond y w o g u))));
       }
 
-  pub columns-joined : {samples : List ℤ} (c x : ℕ) {v0 v1 v2 v3 : List ℤ} → x ≤ 70 → Holds size samples r c first 2 x (x + 2) v1 × Kept first 2 x (x + 2) v0 v1
+  pub columns_joined : {samples : List ℤ} (c x : ℕ) {v0 v1 v2 v3 : List ℤ} → x ≤ 70 → Holds size samples r c first 2 x (x + 2) v1 × Kept first 2 x (x + 2) v0 v1
       → Holds size samples r c 2 (4 * down + 2) x (x + 2) v2 × Kept 2 (4 * down + 2) x (x + 2) v1 v2
       → Holds size samples r c (4 * down + 2) 16 x (x + 2) v3 × Kept (4 * down + 2) 16 x (x + 2) v2 v3
       → Holds size samples r c first 18 x (x + 2) v3 × Kept first 18 x (x + 2) v0 v3
-  columns-joined c x few a b d =
-      let n = rows-down in
+  columns_joined c x few a b d =
+      let n = rows_down in
       let f = rows-first in
       let above = holds_kept r c first 2 x (x + 2) 2 (4 * down + 2) x (x + 2) (omega arith) (λ y z g h k l m o p q. absurd (omega arith)) a.0 b.1 in (
-        three-rows c x (x + 2) (holds_kept r c first 2 x (x + 2) (4 * down + 2) 16 x (x + 2) (omega arith) (λ y z g h k l m o p q. absurd (omega (arith, n))) above d.1)
+        three_rows c x (x + 2) (holds_kept r c first 2 x (x + 2) (4 * down + 2) 16 x (x + 2) (omega arith) (λ y z g h k l m o p q. absurd (omega (arith, n))) above d.1)
             (holds_kept r c 2 (4 * down + 2) x (x + 2) (4 * down + 2) 16 x (x + 2) (omega arith) (λ y z g h k l m o p q. absurd (omega arith)) b.0 d.1) d.0,
-        kept_then (kept-as first 18 x (x + 2) (omega arith) (omega arith) (omega arith) (omega arith) a.1) (kept_then (kept-as first 18 x (x + 2) (omega arith) (omega (arith, n)) (omega arith) (omega arith) b.1)
-            (kept-as first 18 x (x + 2) (omega (arith, n)) (omega arith) (omega arith) (omega arith) d.1)),
+        kept_then (kept_as first 18 x (x + 2) (omega arith) (omega arith) (omega arith) (omega arith) a.1) (kept_then (kept_as first 18 x (x + 2) (omega arith) (omega (arith, n)) (omega arith) (omega arith) b.1)
+            (kept_as first 18 x (x + 2) (omega (arith, n)) (omega arith) (omega arith) (omega arith) d.1)),
       )

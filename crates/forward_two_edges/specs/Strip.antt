@@ -1,7 +1,7 @@
 -- The strip: 18 rows of 72 numbers, of which the first is the unfiltered sample of row 16 r, column 16 c of a picture. Which of its numbers are there already.
 use Rattle.std.specs.Prelude.{ℕ, ◌+◌, ◌*◌, ◌≤◌, ◌<◌, ◌≡◌, List, ◌⊎◌, length, ℤ}
 use Rattle.lifting.specs.Program.{at, get, undo}
-use Rattle.figures.specs.Figures.{fourFilter}
+use Rattle.figures.specs.Figures.{four_filter}
 use Rattle.transform.specs.Level.{cell, strip as line}
 use Rattle.picture.specs.Sizes.{macroblocks, Sized}
 use Rattle.picture.specs.declared.size.Size.{Size}
@@ -48,5 +48,5 @@ pub record Columns (i n : ℕ) (f : ℕ → ℕ → ℤ) (old new : List ℤ) : 
   pub others : (j : ℕ) → ((b k : ℕ) → b < 2 → k < n → j ≡ i + b + k * 72 → ⊥) → at new j ≡ at old j
 
 -- four numbers in a line, of which the first stands at place i, unfiltered
-unfoldable pub unfilteredAt : List ℤ → ℕ → ℕ → List ℤ
-unfilteredAt samples step i = undo fourFilter (get (line step i) samples)
+unfoldable pub unfiltered_at : List ℤ → ℕ → ℕ → List ℤ
+unfiltered_at samples step i = undo four_filter (get (line step i) samples)

@@ -10,9 +10,9 @@ unfiltered size samples = undo (filters (4 * size.width.0) (4 * size.height.0)) 
 -- place i of a grid of p squares across lies in these rows and columns, the last of each not counted
 pub record Rectangle (p top bottom left right i : ℕ) : Type 0 where
   pub row_from : top ≤ i / (4 * p)
-  pub row-to : i / (4 * p) < bottom
-  pub column-from : left ≤ i % (4 * p)
-  pub column-to : i % (4 * p) < right
+  pub row_to : i / (4 * p) < bottom
+  pub column_from : left ≤ i % (4 * p)
+  pub column_to : i % (4 * p) < right
 
 -- the two rows, or columns, at an edge of n squares
 abbrev pub Edge : ℕ → ℕ → Type 0

@@ -5,7 +5,7 @@ ghost use Rattle.std.specs.Prelude.{◌≡◌, ℕ, ◌+◌, ◌*◌, ◌/◌, �
 ghost use Rattle.lifting.specs.Program.{at as number};
 ghost use Rattle.transform.specs.Level.{cell};
 ghost use Rattle.forward_two_edges.specs.Unfiltered.{Edge, First};
-ghost use Rattle.forward_two_edges.specs.Strip.{Holds, Kept, Given, Rows, Stands, Spread, Columns, unfilteredAt};
+ghost use Rattle.forward_two_edges.specs.Strip.{Holds, Kept, Given, Rows, Stands, Spread, Columns, unfiltered_at};
 
 use crate::place::Place;
 use four_filter::unfiltered;
@@ -16,7 +16,7 @@ use picture::size::Size;
 fn unfilter_four(samples: &[i32], step: usize, at: usize, strip: &mut [i32], far: usize, to: usize)
     requires step_in_bounds { at + step + step + step < length samples.now }
     requires far_nonzero { (0 < far) × (to + far + far + far < length strip.old) }
-    ensures { Spread to far 4 (number (unfilteredAt samples.now step at)) strip.old strip.new }
+    ensures { Spread to far 4 (number (unfiltered_at samples.now step at)) strip.old strip.new }
 {
     let v = unfiltered(get_four(samples, step, at));
     put_four(strip, far, to, v);
@@ -110,7 +110,7 @@ fn corner(
 // Both go in one walk, since their numbers stand in the same lines of memory. The place below the last four of the first is given back.
 fn column_fours(samples: &[i32], w: usize, at: Place, n: usize, strip: &mut [i32]) -> Place
     requires { (0 < w) × (at.samples + 1 + 4 * w * n ≤ length samples.now) × (at.strip + 1 + 288 * n < length strip.old + 72) }
-    ensures columns { Columns at.strip (4 * n) (λ b j. number (unfilteredAt samples.now w (at.samples + b + 4 * w * (j / 4))) (j % 4)) strip.old strip.new }
+    ensures columns { Columns at.strip (4 * n) (λ b j. number (unfiltered_at samples.now w (at.samples + b + 4 * w * (j / 4))) (j % 4)) strip.old strip.new }
     ensures samples_value { (result.samples ≡ at.samples + 4 * w * n) × (result.strip ≡ at.strip + 288 * n) }
 {
     let mut next = at;

@@ -13,12 +13,12 @@ use Rattle.figures.specs.Block.{four}
 use Rattle.transform.specs.Level.{strip as line}
 use Rattle.transform.specs.Grids.{coefficients}
 use Rattle.picture.proofs.Table.{at_table}
-use Rattle.forward_kernel.specs.Placed.{Placed, blockIn}
-use Rattle.forward_kernel.proofs.Stores.{placed-none, placed-next, placed-after, four-placed, below-four}
+use Rattle.forward_kernel.specs.Placed.{Placed, block_in}
+use Rattle.forward_kernel.proofs.Stores.{placed_none, placed_next, placed_after, four_placed, below-four}
 use Rattle.forward_two_cores.specs.Blocks.{block_of}
 use Rattle.forward_kernel.proofs.Stores.{same_block, at_block}
 use Rattle.forward_two_edges.specs.Strip.{Kept}
-use Rattle.forward_two_edges.proofs.Strips.{kept-as, kept_then}
+use Rattle.forward_two_edges.proofs.Strips.{kept_as, kept_then}
 use Rattle.forward_two_parked.specs.Parked.{place_in, Parked, Fetched, ZerosParked, RestParked}
 
 -- ---- numbers of a block
@@ -28,48 +28,48 @@ same_number x y f g zero e h = e
 same_number x y f g (suc j) e h = h j (omega arith)
 
 module _ (dc low high : List ℤ) where
-  pub block_at : (t j : ℕ) → j < 16 → at (block_of dc low high t) j ≡ coefficients (at (blockIn dc low (t / 16)) (t % 16)) (λ i. at high (15 * t + i)) j
+  pub block_at : (t j : ℕ) → j < 16 → at (block_of dc low high t) j ≡ coefficients (at (block_in dc low (t / 16)) (t % 16)) (λ i. at high (15 * t + i)) j
   unfolding block_of
-  block_at t j h = at_table 16 (coefficients (at (blockIn dc low (t / 16)) (t % 16)) (λ i. at high (15 * t + i))) j h
+  block_at t j h = at_table 16 (coefficients (at (block_in dc low (t / 16)) (t % 16)) (λ i. at high (15 * t + i))) j h
 
-  pub block-of : (m first k j : ℕ) (x : ℤ) → first ≡ 240 * m → k < 16 → j < 16 → x ≡ at (blockIn dc low m) k → coefficients x (λ i. at high (first + 15 * k + i)) j ≡ at (block_of dc low high (16 * m + k)) j
+  pub block-of : (m first k j : ℕ) (x : ℤ) → first ≡ 240 * m → k < 16 → j < 16 → x ≡ at (block_in dc low m) k → coefficients x (λ i. at high (first + 15 * k + i)) j ≡ at (block_of dc low high (16 * m + k)) j
   block-of m first k j x f h l e =
-      same_number x _ _ _ j (e ∙ ap₂ (λ (a b : ℕ). at (blockIn dc low a) b) (omega arith) (omega arith)) (λ i q. ap (at high) (omega arith)) ∙ sym (block_at (16 * m + k) j l)
+      same_number x _ _ _ j (e ∙ ap₂ (λ (a b : ℕ). at (block_in dc low a) b) (omega arith) (omega arith)) (λ i q. ap (at high) (omega arith)) ∙ sym (block_at (16 * m + k) j l)
 
 -- ---- to the strip
 
-kept-placed : (y l n : ℕ) (i : ℕ) {f : ℕ → ℤ} {old new : List ℤ} → i ≡ 72 * y + l → l + n ≤ 72 → Placed i n f old new → Kept y (y + 1) l (l + n) old new
-kept-placed y l n i {f} {old} {new} e h p = record {
+kept_placed : (y l n : ℕ) (i : ℕ) {f : ℕ → ℤ} {old new : List ℤ} → i ≡ 72 * y + l → l + n ≤ 72 → Placed i n f old new → Kept y (y + 1) l (l + n) old new
+kept_placed y l n i {f} {old} {new} e h p = record {
   len = p.len;
   same = λ z x k o. by_cases (dec_lt (72 * z + x) i) (λ m. p.below (72 * z + x) m)
       (λ m. by_cases (dec_lt (72 * z + x) (i + n)) (λ q. absurd (o (omega (arith, m, q)) (omega (arith, m, q)) (omega (arith, m, q)) (omega (arith, m, q)))) (λ q. p.above (72 * z + x) (omega (arith, q))));
 }
 
-pub block-fetched : (g : ℕ → ℤ) (x : ℕ) (old a b : List ℤ) {mid new : List ℤ} → x ≤ 68 → length old ≡ 1296 → ((j : ℕ) → j < 4 → at a j ≡ g j) → ((j : ℕ) → j < 4 → at b j ≡ g (j + 4))
+pub block_fetched : (g : ℕ → ℤ) (x : ℕ) (old a b : List ℤ) {mid new : List ℤ} → x ≤ 68 → length old ≡ 1296 → ((j : ℕ) → j < 4 → at a j ≡ g j) → ((j : ℕ) → j < 4 → at b j ≡ g (j + 4))
     → mid ≡ put (line 1 x) (four a) old → new ≡ put (line 1 (72 + x)) (four b) mid
     → ((j : ℕ) → j < 8 → at new (72 * (j / 4) + x + j % 4) ≡ g j) × Kept 0 2 x (x + 4) old new
-block-fetched g x old a b {mid} {new} h l fa fb ea eb =
-    let p = four-placed x a old (omega arith) ea in
-    let q = four-placed (72 + x) b mid (omega (arith, p.len)) eb in (
+block_fetched g x old a b {mid} {new} h l fa fb ea eb =
+    let p = four_placed x a old (omega arith) ea in
+    let q = four_placed (72 + x) b mid (omega (arith, p.len)) eb in (
       λ j k. by_cases (dec_lt j 4)
           (λ m. ap (at new) (omega (arith, m)) ∙ q.below (x + j) (omega (arith, m)) ∙ p.own j m ∙ fa j m)
           (λ m. ap (at new) (omega (arith, m)) ∙ q.own (j - 4) (omega (arith, m)) ∙ fb (j - 4) (omega (arith, m)) ∙ ap g (omega (arith, m))),
-      kept_then (kept-as 0 2 x (x + 4) (omega arith) (omega arith) (omega arith) (omega arith) (kept-placed 0 x 4 x (omega arith) (omega arith) p))
-          (kept-as 0 2 x (x + 4) (omega arith) (omega arith) (omega arith) (omega arith) (kept-placed 1 x 4 (72 + x) (omega arith) (omega arith) q)),
+      kept_then (kept_as 0 2 x (x + 4) (omega arith) (omega arith) (omega arith) (omega arith) (kept_placed 0 x 4 x (omega arith) (omega arith) p))
+          (kept_as 0 2 x (x + 4) (omega arith) (omega arith) (omega arith) (omega arith) (kept_placed 1 x 4 (72 + x) (omega arith) (omega arith) q)),
     )
 
 -- one more block of a macroblock
-pub blocks-fetched : (blocks : ℕ → List ℤ) (m b n : ℕ) {old new : List ℤ} → b < 4 → n < 4 → ((j : ℕ) → j < 8 → at new (72 * (j / 4) + (16 * b + 4 * n) + j % 4) ≡ at (blocks (16 * m + n)) j)
+pub blocks_fetched : (blocks : ℕ → List ℤ) (m b n : ℕ) {old new : List ℤ} → b < 4 → n < 4 → ((j : ℕ) → j < 8 → at new (72 * (j / 4) + (16 * b + 4 * n) + j % 4) ≡ at (blocks (16 * m + n)) j)
     → Kept 0 2 (16 * b + 4 * n) (16 * b + 4 * n + 4) old new → ((k j : ℕ) → k < n → j < 8 → at old (place_in 0 b k j) ≡ at (blocks (16 * m + k)) j)
     → (k j : ℕ) → k < n + 1 → j < 8 → at new (place_in 0 b k j) ≡ at (blocks (16 * m + k)) j
-blocks-fetched blocks m b n {old} {new} lb ln own kept before k j h l = by_cases (ℕ_discrete k n)
+blocks_fetched blocks m b n {old} {new} lb ln own kept before k j h l = by_cases (ℕ_discrete k n)
     (λ e. ap (at new) (omega (arith, e)) ∙ own j l ∙ ap (λ (i : ℕ). at (blocks (16 * m + i)) j) (sym e))
     (λ o. ap (at new) (omega arith) ∙ kept.same (j / 4) (16 * b + 4 * k + j % 4) (omega (arith, o)) (λ p q r s. o (omega (arith, p, q, r, s))) ∙ ap (at old) (omega arith) ∙ before k j (omega (arith, o)) l)
 
 -- one more macroblock
-pub macroblocks-fetched : (blocks : ℕ → List ℤ) (m n : ℕ) {old new : List ℤ} → n < 4 → ((k j : ℕ) → k < 4 → j < 8 → at new (place_in 0 n k j) ≡ at (blocks (16 * (m + n) + k)) j)
+pub macroblocks_fetched : (blocks : ℕ → List ℤ) (m n : ℕ) {old new : List ℤ} → n < 4 → ((k j : ℕ) → k < 4 → j < 8 → at new (place_in 0 n k j) ≡ at (blocks (16 * (m + n) + k)) j)
     → Kept 0 2 (16 * n) (16 * n + 16) old new → Fetched m n blocks old → Fetched m (n + 1) blocks new
-macroblocks-fetched blocks m n {old} {new} ln own kept before = record {
+macroblocks_fetched blocks m n {old} {new} ln own kept before = record {
   own = λ b k j h l i. by_cases (ℕ_discrete b n)
       (λ e. ap (at new) (omega (arith, e)) ∙ own k j l i ∙ ap (λ (a : ℕ). at (blocks (16 * (m + a) + k)) j) (sym e))
       (λ o. ap (at new) (omega arith) ∙ kept.same (j / 4) (16 * b + 4 * k + j % 4) (omega (arith, o)) (λ p q r s. o (omega (arith, p, q, r, s))) ∙ ap (at old) (omega arith) ∙ before.own b k j (omega (arith, o)) l i);
@@ -79,13 +79,13 @@ macroblocks-fetched blocks m n {old} {new} ln own kept before = record {
 
 pub zeros-parked : (m b : ℕ) (strip dc low : List ℤ) (x0 x1 x2 x3 : ℤ) → m < length dc → 15 * m + 14 < length low
     → x0 ≡ at strip (1152 + 16 * b) → x1 ≡ at strip (1152 + 16 * b + 4) → x2 ≡ at strip (1152 + 16 * b + 8) → x3 ≡ at strip (1152 + 16 * b + 12)
-    → ZerosParked m b strip (blockIn dc low) (blockIn (set dc m x0) (set (set (set low (15 * m) x1) (15 * m + 1) x2) (15 * m + 2) x3))
-unfolding blockIn
+    → ZerosParked m b strip (block_in dc low) (block_in (set dc m x0) (set (set (set low (15 * m) x1) (15 * m + 1) x2) (15 * m + 2) x3))
+unfolding block_in
 zeros-parked m b strip dc low x0 x1 x2 x3 room more e0 e1 e2 e3 =
     let f : ℕ → ℤ = λ i. at strip (1152 + 16 * b + 4 * (i + 1)) in
     let dc' = set dc m x0 in
     let low' = set (set (set low (15 * m) x1) (15 * m + 1) x2) (15 * m + 2) x3 in
-    let p = placed-next (15 * m) 2 f (15 * m + 2) refl (omega arith) e3 (placed-next (15 * m) 1 f (15 * m + 1) refl (omega arith) e2 (placed-next (15 * m) 0 f (15 * m) (omega arith) (omega arith) e1 (placed-none (15 * m) f low))) in
+    let p = placed_next (15 * m) 2 f (15 * m + 2) refl (omega arith) e3 (placed_next (15 * m) 1 f (15 * m + 1) refl (omega arith) e2 (placed_next (15 * m) 0 f (15 * m) (omega arith) (omega arith) e1 (placed_none (15 * m) f low))) in
     record {
       own = λ k h. at_block dc' low' m k (omega arith)
           ∙ below-four (λ i. coefficients (at dc' m) (λ n. at low' (15 * m + n)) i ≡ at strip (1152 + 16 * b + 4 * i))
@@ -98,8 +98,8 @@ pub block-parked : (i x : ℕ) (strip high a : List ℤ) {new : List ℤ} (x1 x2
     → Placed i 7 (λ j. at strip (72 * (16 + (j + 1) / 4) + x + (j + 1) % 4)) high new
 block-parked i x strip high a x1 x2 x3 room e1 e2 e3 f e =
     let g : ℕ → ℤ = λ j. at strip (72 * (16 + (j + 1) / 4) + x + (j + 1) % 4) in
-    let p = placed-next i 2 g (i + 2) refl (omega arith) (e3 ∙ ap (at strip) (omega arith)) (placed-next i 1 g (i + 1) refl (omega arith) (e2 ∙ ap (at strip) (omega arith)) (placed-next i 0 g i (omega arith) (omega arith) (e1 ∙ ap (at strip) (omega arith)) (placed-none i g high))) in
-    placed-after i 3 3 4 7 g (at a) g (omega arith) (omega arith) refl (λ k h. refl) (λ k h. f k h ∙ ap (at strip) (omega arith)) p (four-placed (i + 3) a _ (omega (arith, p.len)) e)
+    let p = placed_next i 2 g (i + 2) refl (omega arith) (e3 ∙ ap (at strip) (omega arith)) (placed_next i 1 g (i + 1) refl (omega arith) (e2 ∙ ap (at strip) (omega arith)) (placed_next i 0 g i (omega arith) (omega arith) (e1 ∙ ap (at strip) (omega arith)) (placed_none i g high))) in
+    placed_after i 3 3 4 7 g (at a) g (omega arith) (omega arith) refl (λ k h. refl) (λ k h. f k h ∙ ap (at strip) (omega arith)) p (four_placed (i + 3) a _ (omega (arith, p.len)) e)
 
 pub rest-none : (i b : ℕ) (strip v : List ℤ) → RestParked i b 0 strip v v
 rest-none i b strip v = record { len = refl; own = λ k j h l. absurd (omega arith); others = λ a h. refl }
@@ -116,7 +116,7 @@ rest_more i b n {strip} {old} {mid} {new} low p q = record {
 
 -- one more macroblock
 pub macroblocks-parked : (m n : ℕ) (dc low high dc' low' high' : List ℤ) {strip : List ℤ} {blocks : ℕ → List ℤ} → Parked m n strip blocks (block_of dc low high)
-    → ZerosParked (m + n) n strip (blockIn dc low) (blockIn dc' low') → RestParked (240 * (m + n)) n 4 strip high high' → Parked m (n + 1) strip blocks (block_of dc' low' high')
+    → ZerosParked (m + n) n strip (block_in dc low) (block_in dc' low') → RestParked (240 * (m + n)) n 4 strip high high' → Parked m (n + 1) strip blocks (block_of dc' low' high')
 unfolding block_of
 macroblocks-parked m n dc low high dc' low' high' {strip} {blocks} p z q = record {
   own = λ t b j h e k l. by_cases (ℕ_discrete b n)
@@ -125,8 +125,8 @@ macroblocks-parked m n dc low high dc' low' high' {strip} {blocks} p z q = recor
   others = λ t o. elsewhere t (λ f. o (omega (arith, f), omega (arith, f))) ∙ p.others t (λ f. o (omega (arith, f), omega (arith, f)));
 }
   where
-    mine : (t j : ℕ) → t / 16 ≡ m + n → t % 16 < 4 → j < 8 → coefficients (at (blockIn dc' low' (t / 16)) (t % 16)) (λ i. at high' (15 * t + i)) j ≡ at strip (place_in 16 n (t % 16) j)
-    mine t zero e k l = ap (λ (s : ℕ). at (blockIn dc' low' s) (t % 16)) e ∙ z.own (t % 16) k ∙ ap (at strip) (omega arith)
+    mine : (t j : ℕ) → t / 16 ≡ m + n → t % 16 < 4 → j < 8 → coefficients (at (block_in dc' low' (t / 16)) (t % 16)) (λ i. at high' (15 * t + i)) j ≡ at strip (place_in 16 n (t % 16) j)
+    mine t zero e k l = ap (λ (s : ℕ). at (block_in dc' low' s) (t % 16)) e ∙ z.own (t % 16) k ∙ ap (at strip) (omega arith)
     mine t (suc j) e k l = ap (at high') (omega (arith, e)) ∙ q.own (t % 16) j k (omega arith) ∙ ap (at strip) (omega arith)
 
     elsewhere : (t : ℕ) → (t / 16 ≡ m + n → ⊥) → block_of dc' low' high' t ≡ block_of dc low high t

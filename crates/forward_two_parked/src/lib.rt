@@ -2,7 +2,7 @@
 ghost use Rattle.std.specs.Prelude.{◌≡◌, ℕ, ◌+◌, ◌*◌, ◌/◌, ◌%◌, ◌<◌, ◌≤◌, length};
 ghost use Rattle.lifting.specs.Program.{at as number};
 ghost use Rattle.transform.specs.Grids.{coefficients};
-ghost use Rattle.forward_kernel.specs.Placed.{Placed, blockIn};
+ghost use Rattle.forward_kernel.specs.Placed.{Placed, block_in};
 ghost use Rattle.forward_two_cores.specs.Blocks.{block_of};
 ghost use Rattle.forward_two_cores.specs.Cells.{OfOne};
 ghost use Rattle.forward_two_edges.specs.Strip.{Kept};
@@ -62,7 +62,7 @@ pub fn fetch(dc: &[i32], low: &[i32], high: &[i32], cells: Cells, n: usize, stri
 fn park_zeros(dc: &mut [i32], low: &mut [i32], m: usize, from: usize, strip: &[i32], b: usize)
     requires m_in_bounds { (m < length dc.old) × (from + 14 < length low.old) × (from ≡ 15 * m) }
     requires b_bound { (b < 4) × (length strip.now ≡ 1296) }
-    ensures { ZerosParked m b strip.now (blockIn dc.old low.old) (blockIn dc.new low.new) }
+    ensures { ZerosParked m b strip.now (block_in dc.old low.old) (block_in dc.new low.new) }
 {
     let x = 1152 + 16 * b;
     dc[m] = strip[x];

@@ -6,11 +6,11 @@ use native.Mathlib.Omega.{arith}
 use lib.ListN.{length}
 use lib.IntN.{ℤ}
 use Rattle.lifting.specs.Program.{at, get, undo}
-use Rattle.figures.specs.Figures.{squareFilter}
+use Rattle.figures.specs.Figures.{square_filter}
 use Rattle.transform.specs.Level.{cell, square, filters}
 use Rattle.picture.specs.Sizes.{macroblocks}
 use Rattle.picture.specs.declared.size.Size.{Size}
-use Rattle.forward_four_windows.specs.Windows.{windowAt, Windows}
+use Rattle.forward_four_windows.specs.Windows.{window_at, Windows}
 use Rattle.forward_two_edges.specs.Unfiltered.{unfiltered}
 use Rattle.forward_two_edges.specs.Strip.{Holds, Kept}
 use Rattle.forward_two_edges.proofs.Numbers.{window-at}
@@ -24,7 +24,7 @@ module _ (size : Size) (samples : List ℤ) (len : length samples ≡ 256 * macr
   H = size.height.0
 
   pub windows-hold : (k : ℕ) → k ≤ 4 * l + 18 → 16 * c + k + 2 ≤ 16 * W → Holds size samples r c (4 * v + 2) (4 * v + 6) (4 * l + 2) k new
-  unfolding windowAt unfiltered
+  unfolding window_at unfiltered
   windows-hold k h some = record {
     there = λ y x e f g m o p.
         let s = y - (4 * v + 2) in
@@ -33,10 +33,10 @@ module _ (size : Size) (samples : List ℤ) (len : length samples ≡ 256 * macr
         let u = 4 * c + l + b / 4 in
         let n = 4 * s + b % 4 in
         ap (at new) (omega arith) ∙ d.own s b (omega arith) (omega arith)
-        ∙ ap₂ (λ (w z : ℕ). at (undo squareFilter (get (square w z) samples)) n) (omega arith) (omega (arith, place))
+        ∙ ap₂ (λ (w z : ℕ). at (undo square_filter (get (square w z) samples)) n) (omega arith) (omega (arith, place))
         ∙ sym (window-at (4 * W) (4 * H) samples (len ∙ omega arith) j u n (omega arith) (omega arith) (omega arith))
         ∙ ap₂ (λ (z w : ℕ). at (undo (filters (4 * W) (4 * H)) samples) (cell (4 * W) z w)) (omega arith) (omega arith);
   }
 
-  pub windows-keep : Kept (4 * v + 2) (4 * v + 6) (4 * l + 2) (4 * l + 18) old new
-  windows-keep = record { len = d.len; same = λ y x h o. d.others (72 * y + x) (λ s b e f q. o (omega (arith, q)) (omega (arith, q)) (omega (arith, q)) (omega (arith, q))) }
+  pub windows_keep : Kept (4 * v + 2) (4 * v + 6) (4 * l + 2) (4 * l + 18) old new
+  windows_keep = record { len = d.len; same = λ y x h o. d.others (72 * y + x) (λ s b e f q. o (omega (arith, q)) (omega (arith, q)) (omega (arith, q)) (omega (arith, q))) }

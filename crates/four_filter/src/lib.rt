@@ -2,10 +2,10 @@
 // changed a number. The plain form is the told one with nothing asked.
 ghost use Rattle.std.specs.Prelude.{◌≡◌, ◌&&◌, [], ◌∷◌};
 ghost use Rattle.lifting.specs.Program.{run, undo};
-ghost use Rattle.lifting.specs.Wraps.{wraps, undoWraps};
+ghost use Rattle.lifting.specs.Wraps.{wraps, undo_wraps};
 ghost use Rattle.figures.specs.Block.{four, list};
-ghost use Rattle.figures.specs.Figures.{fourFilter as fourFilterLines};
-ghost use Rattle.figures.specs.Pieces.{fourRotation, pairScale};
+ghost use Rattle.figures.specs.Figures.{four_filter as fourFilterLines};
+ghost use Rattle.figures.specs.Pieces.{four_rotation, pair_scale};
 
 use core_operators::steps::{rounded_told, scaled_told};
 use figures::{Four, Pair, ToldFour, ToldPair};
@@ -14,8 +14,8 @@ use overlap_operators::{rotation_told, undo_rotation_told};
 
 // The lines of Figure 4.13 up to its second pair of half sums
 fn four_rotation_told(tell: bool, a: i32, b: i32, c: i32, d: i32) -> ToldFour
-    ensures done { list result.four ≡ run fourRotation (a ∷ b ∷ c ∷ d ∷ []) }
-    ensures told { result.wrapped ≡ tell && wraps fourRotation (a ∷ b ∷ c ∷ d ∷ []) }
+    ensures done { list result.four ≡ run four_rotation (a ∷ b ∷ c ∷ d ∷ []) }
+    ensures told { result.wrapped ≡ tell && wraps four_rotation (a ∷ b ∷ c ∷ d ∷ []) }
 {
     let a1 = add_told(tell, a, d);
     let b1 = add_told(tell, b, c);
@@ -53,8 +53,8 @@ fn four_rotation_told(tell: bool, a: i32, b: i32, c: i32, d: i32) -> ToldFour
 
 // The same undone
 fn undo_four_rotation_told(tell: bool, a: i32, b: i32, c: i32, d: i32) -> ToldFour
-    ensures done { list result.four ≡ undo fourRotation (a ∷ b ∷ c ∷ d ∷ []) }
-    ensures told { result.wrapped ≡ tell && undoWraps fourRotation (a ∷ b ∷ c ∷ d ∷ []) }
+    ensures done { list result.four ≡ undo four_rotation (a ∷ b ∷ c ∷ d ∷ []) }
+    ensures told { result.wrapped ≡ tell && undo_wraps four_rotation (a ∷ b ∷ c ∷ d ∷ []) }
 {
     let e1 = rounded_told(tell, b, 1, 1);
     let c1 = sub_told(tell, c, e1.value);
@@ -92,8 +92,8 @@ fn undo_four_rotation_told(tell: bool, a: i32, b: i32, c: i32, d: i32) -> ToldFo
 
 // What the last lines of Figure 4.13 do to a with d, and to b with c
 fn pair_scale_told(tell: bool, a: i32, b: i32) -> ToldPair
-    ensures done { result.pair.a ∷ result.pair.b ∷ [] ≡ run pairScale (a ∷ b ∷ []) }
-    ensures told { result.wrapped ≡ tell && wraps pairScale (a ∷ b ∷ []) }
+    ensures done { result.pair.a ∷ result.pair.b ∷ [] ≡ run pair_scale (a ∷ b ∷ []) }
+    ensures told { result.wrapped ≡ tell && wraps pair_scale (a ∷ b ∷ []) }
 {
     let e1 = scaled_told(tell, b, 16, 5);
     let e2 = sub_told(tell, b, e1.value);
@@ -120,8 +120,8 @@ fn pair_scale_told(tell: bool, a: i32, b: i32) -> ToldPair
 
 // The same undone
 fn undo_pair_scale_told(tell: bool, a: i32, b: i32) -> ToldPair
-    ensures done { result.pair.a ∷ result.pair.b ∷ [] ≡ undo pairScale (a ∷ b ∷ []) }
-    ensures told { result.wrapped ≡ tell && undoWraps pairScale (a ∷ b ∷ []) }
+    ensures done { result.pair.a ∷ result.pair.b ∷ [] ≡ undo pair_scale (a ∷ b ∷ []) }
+    ensures told { result.wrapped ≡ tell && undo_wraps pair_scale (a ∷ b ∷ []) }
 {
     let e1 = scaled_told(tell, b, 16, 5);
     let a1 = sub_told(tell, a, e1.value);
@@ -178,7 +178,7 @@ pub fn four_filter(a: i32, b: i32, c: i32, d: i32) -> Four
 // Figure 4.13 undone
 pub fn undo_four_filter_told(tell: bool, a: i32, b: i32, c: i32, d: i32) -> ToldFour
     ensures done { list result.four ≡ undo fourFilterLines (a ∷ b ∷ c ∷ d ∷ []) }
-    ensures told { result.wrapped ≡ tell && undoWraps fourFilterLines (a ∷ b ∷ c ∷ d ∷ []) }
+    ensures told { result.wrapped ≡ tell && undo_wraps fourFilterLines (a ∷ b ∷ c ∷ d ∷ []) }
 {
     let outer = undo_pair_scale_told(tell, a, d);
     let inner = undo_pair_scale_told(tell, b, c);
@@ -212,7 +212,7 @@ pub fn unfiltered(v: [i32; 4]) -> [i32; 4]
 
 // Whether a reduction changes a number in it
 pub fn unfiltered_wraps(v: [i32; 4]) -> bool
-    ensures { result ≡ undoWraps fourFilterLines (four v) }
+    ensures { result ≡ undo_wraps fourFilterLines (four v) }
 {
     undo_four_filter_told(true, v[0], v[1], v[2], v[3]).wrapped
 }

@@ -13,5 +13,5 @@ pub row-above : (r w : ℕ) → 0 < r → r * w ≡ (r - 1) * w + w
 row-above r w h = let e : r ≡ r - 1 + 1 = omega arith in omega (arith, ap (λ (k : ℕ). k * w) e)
 
 -- the last two of 4 q rows end where the grid does
-pub last-two : (q w : ℕ) → 0 < q → (4 * q - 2) * w + w + w ≡ 4 * q * w
-last-two q w h = let e : 4 * q ≡ 4 * q - 2 + 2 = omega arith in omega (arith, ap (λ (k : ℕ). k * w) e)
+pub last_two : (q w : ℕ) → 0 < q → (4 * q - 2) * w + w + w ≡ 4 * q * w
+last_two q w h = let e : 4 * q ≡ 4 * q - 2 + 2 = omega arith in omega (arith, ap (λ (k : ℕ). k * w) e)

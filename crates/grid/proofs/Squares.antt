@@ -17,29 +17,29 @@ use Rattle.transform.specs.Level.{strip, square}
 use Rattle.picture.specs.Table.{table}
 use Rattle.transform.specs.Grids.{coefficients}
 
-pub four-read : (v : List ℤ) (i j k l : ℕ) → mag (at v i) < 2147483648 → mag (at v j) < 2147483648 → mag (at v k) < 2147483648 → mag (at v l) < 2147483648
+pub four_read : (v : List ℤ) (i j k l : ℕ) → mag (at v i) < 2147483648 → mag (at v j) < 2147483648 → mag (at v k) < 2147483648 → mag (at v l) < 2147483648
     → kept (at v i) ∷ kept (at v j) ∷ kept (at v k) ∷ kept (at v l) ∷ [] ≡ get (i ∷ j ∷ k ∷ l ∷ []) v
 unfolding get
-four-read v i j k l a b c d = rw (back a, back b, back c, back d)
+four_read v i j k l a b c d = rw (back a, back b, back c, back d)
 
-pub four-stored : (v : List ℤ) (i j k l : ℕ) (a b c d : ℤ) → mag a < 2147483648 → mag b < 2147483648 → mag c < 2147483648 → mag d < 2147483648
+pub four_stored : (v : List ℤ) (i j k l : ℕ) (a b c d : ℤ) → mag a < 2147483648 → mag b < 2147483648 → mag c < 2147483648 → mag d < 2147483648
     → set (set (set (set v i (kept a)) j (kept b)) k (kept c)) l (kept d) ≡ put (i ∷ j ∷ k ∷ l ∷ []) (a ∷ b ∷ c ∷ d ∷ []) v
 unfolding put
-four-stored v i j k l a b c d e f g h = rw (back e, back f, back g, back h)
+four_stored v i j k l a b c d e f g h = rw (back e, back f, back g, back h)
 
 rows : {x x' y y' z z' w w' : List ℤ} → x ≡ x' → y ≡ y' → z ≡ z' → w ≡ w' → x ++ (y ++ (z ++ w)) ≡ x' ++ (y' ++ (z' ++ w'))
 rows a b c d = rw (a, b, c, d)
 
-pub square-read : (v : List ℤ) (w i : ℕ) (p q r s : List ℤ)
+pub square_read : (v : List ℤ) (w i : ℕ) (p q r s : List ℤ)
     → four p ≡ get (strip 1 i) v → four q ≡ get (strip 1 (i + w)) v → four r ≡ get (strip 1 (i + w + w)) v → four s ≡ get (strip 1 (i + w + w + w)) v
     → flat (p ∷ q ∷ r ∷ s ∷ []) ≡ get (square w i) v
 unfolding get flat square
-square-read v w i p q r s a b c d = rows a b c d
+square_read v w i p q r s a b c d = rows a b c d
 
 -- the same, where coefficient 0 is x and coefficients 1 to 15 stand one after another from place i of a list
-fours-same : (v : List ℤ) {a b c d a' b' c' d' : ℕ} → a ≡ a' → b ≡ b' → c ≡ c' → d ≡ d'
+fours_same : (v : List ℤ) {a b c d a' b' c' d' : ℕ} → a ≡ a' → b ≡ b' → c ≡ c' → d ≡ d'
     → at v a ∷ at v b ∷ at v c ∷ at v d ∷ [] ≡ at v a' ∷ at v b' ∷ at v c' ∷ at v d' ∷ []
-fours-same v a b c d = rw (a, b, c, d)
+fours_same v a b c d = rw (a, b, c, d)
 
 pub square-rows : (x : ℤ) (v : List ℤ) (i : ℕ) (second third fourth : List ℤ)
     → SFits w32 x → mag (at v i) < 2147483648 → mag (at v (i + 1)) < 2147483648 → mag (at v (i + 2)) < 2147483648
@@ -48,9 +48,9 @@ pub square-rows : (x : ℤ) (v : List ℤ) (i : ℕ) (second third fourth : List
 unfolding flat get table
 square-rows x v i second third fourth f g h l b c d =
     rows top
-    (b ∙ fours-same v refl (omega arith) (omega arith) (omega arith))
-    (c ∙ fours-same v refl (omega arith) (omega arith) (omega arith))
-    (d ∙ fours-same v refl (omega arith) (omega arith) (omega arith))
+    (b ∙ fours_same v refl (omega arith) (omega arith) (omega arith))
+    (c ∙ fours_same v refl (omega arith) (omega arith) (omega arith))
+    (d ∙ fours_same v refl (omega arith) (omega arith) (omega arith))
   where
     zero_more : (n : ℕ) → n ≡ n + 0
     zero_more n = omega arith
@@ -58,12 +58,12 @@ square-rows x v i second third fourth f g h l b c d =
     top : kept x ∷ kept (at v i) ∷ kept (at v (i + 1)) ∷ kept (at v (i + 2)) ∷ [] ≡ x ∷ at v (i + 0) ∷ at v (i + 1) ∷ at v (i + 2) ∷ []
     top = rw (to_z-of_z w32 x f, back g, back h, back l) (ap (λ n. x ∷ at v n ∷ at v (i + 1) ∷ at v (i + 2) ∷ []) (zero_more i))
 
-pub square-stored : (v : List ℤ) (w i : ℕ) (m : List (List ℤ)) {v1 v2 v3 v4 : List ℤ}
+pub square_stored : (v : List ℤ) (w i : ℕ) (m : List (List ℤ)) {v1 v2 v3 v4 : List ℤ}
     → v1 ≡ put (strip 1 i) (four (get_or m 0 [])) v → v2 ≡ put (strip 1 (i + w)) (four (get_or m 1 [])) v1
     → v3 ≡ put (strip 1 (i + w + w)) (four (get_or m 2 [])) v2 → v4 ≡ put (strip 1 (i + w + w + w)) (four (get_or m 3 [])) v3
     → v4 ≡ put (square w i) (flat m) v
 unfolding put flat square
-square-stored v w i m a b c d = rw (d, c, b, a)
+square_stored v w i m a b c d = rw (d, c, b, a)
 
 -- one use of an operator: the numbers at its places, what it makes of them, and these at its places
 pub used : (o : Operator) (s : Program) (ps : List ℕ) (v x y : List ℤ) {u : List ℤ} → x ≡ get ps v → y ≡ run s x → u ≡ put ps y v → u ≡ run (apply o s ps end) v
@@ -71,12 +71,12 @@ unfolding run_by
 used o s ps v x y a b c = rw (c, b, a)
 
 -- the same where the operator takes its four numbers one by one and answers with four fields
-pub four-used : (o : Operator) (s : Program) (ps : List ℕ) (v x : List ℤ) {a b c d : ℤ} {u : List ℤ} {X Y Z W O : Type 0}
+pub four_used : (o : Operator) (s : Program) (ps : List ℕ) (v x : List ℤ) {a b c d : ℤ} {u : List ℤ} {X Y Z W O : Type 0}
     → four x ≡ get ps v → mag (at x 0) < 2147483648 → mag (at x 1) < 2147483648 → mag (at x 2) < 2147483648 → mag (at x 3) < 2147483648
     → (X × (mag a < 2147483648)) × ((Y × (mag b < 2147483648)) × ((Z × (mag c < 2147483648)) × ((W × (mag d < 2147483648)) × O)))
     → a ∷ b ∷ c ∷ d ∷ [] ≡ run s (kept (at x 0) ∷ kept (at x 1) ∷ kept (at x 2) ∷ kept (at x 3) ∷ [])
     → u ≡ put ps (kept a ∷ kept b ∷ kept c ∷ kept d ∷ []) v
     → u ≡ run (apply o s ps end) v
-four-used o s ps v x e f0 f1 f2 f3 g h k =
+four_used o s ps v x e f0 f1 f2 f3 g h k =
     used o s ps v (four x) _ e (rw (back f0, back f1, back f2, back f3) at h)
     (rw (back g.0.1, back g.1.0.1, back g.1.1.0.1, back g.1.1.1.0.1) at k)

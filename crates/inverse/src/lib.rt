@@ -4,9 +4,9 @@ mod told; // told.rt: the levels, and whether a sum of them wrapped
 ghost use Rattle.std.specs.Prelude.{◌≡◌, false, ◌++◌, ◌*◌, length};
 ghost use Rattle.picture.specs.Sizes.{Sized, macroblocks};
 ghost use Rattle.picture.specs.Planes.{Lengths, planes};
-ghost use Rattle.transform.specs.Transform.{quarterBy, inverseBy, quarter, inverse as samplesOf};
-ghost use Rattle.transform.specs.Wraps.{quarterWrapsBy, inverseWrapsBy, quarterWraps, inverseWraps};
-ghost use Rattle.picture.specs.Numbers.{first_of, settled, lowChecks, planeChecks, sampleCheck, viewCheck, inverseNumber, quarterNumber};
+ghost use Rattle.transform.specs.Transform.{quarter_by, inverse_by, quarter, inverse as samples_of};
+ghost use Rattle.transform.specs.Wraps.{quarter_wraps_by, inverse_wraps_by, quarter_wraps, inverse_wraps};
+ghost use Rattle.picture.specs.Numbers.{first_of, settled, low_checks, plane_checks, sample_check, view_check, inverse_number, quarter_number};
 
 use crate::told::{inverse_told, level_one_told};
 use inverse_one::level_one;
@@ -29,7 +29,7 @@ pub fn inverse_samples(
     requires sized { Sized size }
     requires lengths { Lengths (macroblocks size) (planes dc.now low.now high.now) }
     requires samples_len { length samples.old ≡ 256 * macroblocks size }
-    ensures { samples.new ≡ inverseBy mode size (planes dc.now low.now high.now) }
+    ensures { samples.new ≡ inverse_by mode size (planes dc.now low.now high.now) }
 {
     let front = 16 * (size.macroblocks().0 as usize);
     level_one(&mut samples[..front], mode.first, size, dc, low);
@@ -47,10 +47,10 @@ fn inverse_sized(
 ) -> Answer
     requires { Sized size }
     ensures number_value { result.number ≡
-        first_of (planeChecks (macroblocks size) (planes dc.now low.now high.now) ++ sampleCheck (macroblocks size) samples.old) }
-    ensures wrapped_value { result.wrapped ≡ settled result.number (inverseWrapsBy mode size (planes dc.now low.now high.now)) false }
+        first_of (plane_checks (macroblocks size) (planes dc.now low.now high.now) ++ sample_check (macroblocks size) samples.old) }
+    ensures wrapped_value { result.wrapped ≡ settled result.number (inverse_wraps_by mode size (planes dc.now low.now high.now)) false }
     ensures samples_after { samples.new ≡
-        settled result.number (inverseBy mode size (planes dc.now low.now high.now)) samples.old }
+        settled result.number (inverse_by mode size (planes dc.now low.now high.now)) samples.old }
 {
     let n = size.macroblocks();
     let planes_number = check_planes(n, dc, low, high);
@@ -71,10 +71,10 @@ pub fn inverse(
     high: &[i32],
     samples: &mut [i32],
 ) -> Answer
-    ensures number_value { result.number ≡ inverseNumber mode size (planes dc.now low.now high.now) samples.old }
-    ensures wrapped_value { result.wrapped ≡ settled result.number (inverseWraps mode size (planes dc.now low.now high.now)) false }
+    ensures number_value { result.number ≡ inverse_number mode size (planes dc.now low.now high.now) samples.old }
+    ensures wrapped_value { result.wrapped ≡ settled result.number (inverse_wraps mode size (planes dc.now low.now high.now)) false }
     ensures samples_after { samples.new ≡
-        settled result.number (samplesOf mode size (planes dc.now low.now high.now)) samples.old }
+        settled result.number (samples_of mode size (planes dc.now low.now high.now)) samples.old }
 {
     match check_shape(mode, size) {
         Checked::Refused(number) => refused(number),
@@ -85,9 +85,9 @@ pub fn inverse(
 // The checks of the lengths, and then level one.
 fn quarter_sized(mode: Mode, size: Size, dc: &[i32], low: &[i32], view: &mut [i32]) -> Answer
     requires { Sized size }
-    ensures number_value { result.number ≡ first_of (lowChecks (macroblocks size) dc.now low.now ++ viewCheck (macroblocks size) view.old) }
-    ensures wrapped_value { result.wrapped ≡ settled result.number (quarterWrapsBy mode size dc.now low.now) false }
-    ensures view_after { view.new ≡ settled result.number (quarterBy mode size dc.now low.now) view.old }
+    ensures number_value { result.number ≡ first_of (low_checks (macroblocks size) dc.now low.now ++ view_check (macroblocks size) view.old) }
+    ensures wrapped_value { result.wrapped ≡ settled result.number (quarter_wraps_by mode size dc.now low.now) false }
+    ensures view_after { view.new ≡ settled result.number (quarter_by mode size dc.now low.now) view.old }
 {
     let n = size.macroblocks();
     let low_number = check_low(n, dc, low);
@@ -101,8 +101,8 @@ fn quarter_sized(mode: Mode, size: Size, dc: &[i32], low: &[i32], view: &mut [i3
 }
 
 pub fn quarter_view(mode: u32, size: Size, dc: &[i32], low: &[i32], view: &mut [i32]) -> Answer
-    ensures number_value { result.number ≡ quarterNumber mode size dc.now low.now view.old }
-    ensures wrapped_value { result.wrapped ≡ settled result.number (quarterWraps mode size dc.now low.now) false }
+    ensures number_value { result.number ≡ quarter_number mode size dc.now low.now view.old }
+    ensures wrapped_value { result.wrapped ≡ settled result.number (quarter_wraps mode size dc.now low.now) false }
     ensures view_after { view.new ≡ settled result.number (quarter mode size dc.now low.now) view.old }
 {
     match check_shape(mode, size) {

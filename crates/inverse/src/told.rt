@@ -5,10 +5,10 @@ ghost use Rattle.lifting.specs.Program.{run};
 ghost use Rattle.lifting.specs.Wraps.{wraps};
 ghost use Rattle.transform.specs.Level.{level};
 ghost use Rattle.picture.specs.Planes.{Lengths, planes};
-ghost use Rattle.transform.specs.Grids.{firstGrid, secondGrid};
+ghost use Rattle.transform.specs.Grids.{first_grid, second_grid};
 ghost use Rattle.picture.specs.Sizes.{Sized, macroblocks};
-ghost use Rattle.transform.specs.Transform.{inverseBy};
-ghost use Rattle.transform.specs.Wraps.{inverseWrapsBy};
+ghost use Rattle.transform.specs.Transform.{inverse_by};
+ghost use Rattle.transform.specs.Wraps.{inverse_wraps_by};
 
 use cores_told::{first_cores_wrap, second_cores_wrap};
 use filters_told::filters_wrap_if;
@@ -23,9 +23,9 @@ pub fn level_one_told(view: &mut [i32], filtered: bool, size: Size, dc: &[i32], 
     requires view_len { length view.old ≡ 16 * macroblocks size }
     requires dc_len { (length dc.now ≡ macroblocks size) × (length low.now ≡ 15 * macroblocks size) }
     ensures view_after { view.new ≡
-        run (level filtered size.width.0 size.height.0) (firstGrid size.width.0 size.height.0 dc.now low.now) }
+        run (level filtered size.width.0 size.height.0) (first_grid size.width.0 size.height.0 dc.now low.now) }
     ensures value { result ≡
-        wraps (level filtered size.width.0 size.height.0) (firstGrid size.width.0 size.height.0 dc.now low.now) }
+        wraps (level filtered size.width.0 size.height.0) (first_grid size.width.0 size.height.0 dc.now low.now) }
 {
     level_one(view, filtered, size, dc, low);
     let large_dc = any_large(dc);
@@ -48,9 +48,9 @@ fn level_two_told(samples: &mut [i32], filtered: bool, size: Size, high: &[i32])
     requires samples_len { length samples.old ≡ 256 * macroblocks size }
     requires high_len { length high.now ≡ 240 * macroblocks size }
     ensures samples_after { samples.new ≡
-        run (level filtered (4 * size.width.0) (4 * size.height.0)) (secondGrid size.width.0 size.height.0 (take (16 * macroblocks size) samples.old) high.now) }
+        run (level filtered (4 * size.width.0) (4 * size.height.0)) (second_grid size.width.0 size.height.0 (take (16 * macroblocks size) samples.old) high.now) }
     ensures value { result ≡
-        wraps (level filtered (4 * size.width.0) (4 * size.height.0)) (secondGrid size.width.0 size.height.0 (take (16 * macroblocks size) samples.old) high.now) }
+        wraps (level filtered (4 * size.width.0) (4 * size.height.0)) (second_grid size.width.0 size.height.0 (take (16 * macroblocks size) samples.old) high.now) }
 {
     let front = 16 * (size.macroblocks().0 as usize);
     let large_view = any_large(&samples[..front]);
@@ -81,8 +81,8 @@ pub fn inverse_told(
     requires sized { Sized size }
     requires lengths { Lengths (macroblocks size) (planes dc.now low.now high.now) }
     requires samples_len { length samples.old ≡ 256 * macroblocks size }
-    ensures samples_after { samples.new ≡ inverseBy mode size (planes dc.now low.now high.now) }
-    ensures value { result ≡ inverseWrapsBy mode size (planes dc.now low.now high.now) }
+    ensures samples_after { samples.new ≡ inverse_by mode size (planes dc.now low.now high.now) }
+    ensures value { result ≡ inverse_wraps_by mode size (planes dc.now low.now high.now) }
 {
     let front = 16 * (size.macroblocks().0 as usize);
     let first = level_one_told(&mut samples[..front], mode.first, size, dc, low);

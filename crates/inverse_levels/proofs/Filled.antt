@@ -10,7 +10,7 @@ use Rattle.lifting.specs.Program.{at, put}
 use Rattle.lifting.proofs.Reverse.{length-put}
 use Rattle.transform.specs.Level.{cell, square}
 use Rattle.picture.specs.Table.{table}
-use Rattle.transform.specs.Grids.{squareOf, place, grid}
+use Rattle.transform.specs.Grids.{square_of, place, grid}
 use Rattle.picture.proofs.Table.{length-table, at_table}
 use Rattle.transform.proofs.Geometry.{square-of-place, place-of-square}
 use Rattle.transform.proofs.Grid.{grid-is}
@@ -18,18 +18,18 @@ use Rattle.transform.proofs.Squares.{sixteen, square-is, own, other}
 use Rattle.inverse_levels.specs.Filled.{Filled}
 
 -- the place of a coefficient does not come before its square's number
-pub square-not-after : {p : ℕ} → 0 < p → (i : ℕ) → squareOf p i ≤ i
+pub square-not-after : {p : ℕ} → 0 < p → (i : ℕ) → square_of p i ≤ i
 square-not-after {p} wide i =
-    let s = squareOf p i in
+    let s = square_of p i in
     omega (arith, place-of-square wide i, div-add-mod' s p)
 
 pub filled_none : (p : ℕ) (f : ℕ → ℕ → ℤ) (v : List ℤ) (P : ℕ → Type 0) → ((s : ℕ) → ¬ P s) → Filled p f v P v
 filled_none p f v P none = record { len = refl; done = λ s k h l. absurd (none s h); rest = λ i h. refl }
 
 -- the squares of P, and then those of Q: together those of R
-pub filled-join : {p : ℕ} → 0 < p → {f g : ℕ → ℕ → ℤ} {old v u : List ℤ} {P Q : ℕ → Type 0} (R : ℕ → Type 0) → ((s : ℕ) → Dec (Q s)) → ((s : ℕ) → R s → ¬ Q s → P s)
+pub filled_join : {p : ℕ} → 0 < p → {f g : ℕ → ℕ → ℤ} {old v u : List ℤ} {P Q : ℕ → Type 0} (R : ℕ → Type 0) → ((s : ℕ) → Dec (Q s)) → ((s : ℕ) → R s → ¬ Q s → P s)
     → ((s : ℕ) → P s → R s) → ((s : ℕ) → Q s → R s) → ((s k : ℕ) → Q s → k < 16 → g s k ≡ f s k) → Filled p f old P v → Filled p g v Q u → Filled p f old R u
-filled-join {p} wide {f} {g} {old} {v} {u} {P} {Q} R decide split first second same r t = record {
+filled_join {p} wide {f} {g} {old} {v} {u} {P} {Q} R decide split first second same r t = record {
   len = t.len ∙ r.len;
   done = λ s k h l. here s k h l (decide s);
   rest = λ i h. t.rest i (λ z. h (second _ z)) ∙ r.rest i (λ z. h (first _ z));
@@ -40,13 +40,13 @@ filled-join {p} wide {f} {g} {old} {v} {u} {P} {Q} R decide split first second s
     here s k h l (no n) = t.rest (place p s k) (λ z. n (subst Q (square-of-place wide s k l) z)) ∙ r.done s k (split s h n) l
 
 -- the same squares, said otherwise
-pub filled-same : {p : ℕ} {f : ℕ → ℕ → ℤ} {old v : List ℤ} {P : ℕ → Type 0} (Q : ℕ → Type 0) → ((s : ℕ) → Q s → P s) → ((s : ℕ) → P s → Q s) → Filled p f old P v → Filled p f old Q v
-filled-same Q to from r = record { len = r.len; done = λ s k h l. r.done s k (to s h) l; rest = λ i h. r.rest i (λ z. h (from _ z)) }
+pub filled_same : {p : ℕ} {f : ℕ → ℕ → ℤ} {old v : List ℤ} {P : ℕ → Type 0} (Q : ℕ → Type 0) → ((s : ℕ) → Q s → P s) → ((s : ℕ) → P s → Q s) → Filled p f old P v → Filled p f old Q v
+filled_same Q to from r = record { len = r.len; done = λ s k h l. r.done s k (to s h) l; rest = λ i h. r.rest i (λ z. h (from _ z)) }
 
 -- one square
-pub filled-one : {p : ℕ} → 0 < p → (q b : ℕ) (f : ℕ → ℕ → ℤ) {v u : List ℤ} → b < p * q → 16 * (p * q) ≤ length v → u ≡ put (square (4 * p) (cell p (4 * (b / p)) (4 * (b % p)))) (table 16 (f b)) v
+pub filled_one : {p : ℕ} → 0 < p → (q b : ℕ) (f : ℕ → ℕ → ℤ) {v u : List ℤ} → b < p * q → 16 * (p * q) ≤ length v → u ≡ put (square (4 * p) (cell p (4 * (b / p)) (4 * (b % p)))) (table 16 (f b)) v
     → Filled p f v (λ s. s ≡ b) u
-filled-one {p} wide q b f {v} {u} low long w = record {
+filled_one {p} wide q b f {v} {u} low long w = record {
   len = ap length y ∙ length-put _ _ v;
   done = λ s k e o. ap (λ z. at z (place p s k)) y ∙ rw e (own wide q b low (table 16 (f b)) v (length-table 16 (f b)) long k o ∙ at_table 16 (f b) k o);
   rest = λ i h. ap (λ z. at z i) y ∙ other wide b _ v i h;
@@ -56,5 +56,5 @@ filled-one {p} wide q b f {v} {u} low long w = record {
     y = w ∙ rw (square-is p (4 * (b / p)) (4 * (b % p)))
 
 -- all squares
-pub filled-grid : {p : ℕ} → 0 < p → (q : ℕ) (f : ℕ → ℕ → ℤ) {old v : List ℤ} {P : ℕ → Type 0} → ((s : ℕ) → s < p * q → P s) → length old ≡ 16 * (p * q) → Filled p f old P v → v ≡ grid p q f
-filled-grid wide q f all l r = sym (grid-is wide q f _ (r.len ∙ l) (λ s k h m. sym (r.done s k (all s h) m)))
+pub filled_grid : {p : ℕ} → 0 < p → (q : ℕ) (f : ℕ → ℕ → ℤ) {old v : List ℤ} {P : ℕ → Type 0} → ((s : ℕ) → s < p * q → P s) → length old ≡ 16 * (p * q) → Filled p f old P v → v ≡ grid p q f
+filled_grid wide q f all l r = sym (grid-is wide q f _ (r.len ∙ l) (λ s k h m. sym (r.done s k (all s h) m)))

@@ -7,7 +7,7 @@ use native.Mathlib.Nat.{mul-le-mul}
 use native.Mathlib.Omega.{arith}
 use lib.IntN.{ℤ}
 use Rattle.lifting.specs.Program.{Program, run, each, ◌then◌, run_by}
-use Rattle.lifting.proofs.Compose.{run-then, run-each}
+use Rattle.lifting.proofs.Compose.{run_then, run-each}
 
 pub each_none : (f : ℕ → Program) (v : List ℤ) → v ≡ run (each 0 f) v
 unfolding run_by each
@@ -22,11 +22,11 @@ each_same zero f g h = refl
 each_same (suc n) f g h = ap₂ ◌then◌ (each_same n f g (λ k l. h k (omega arith))) (h n (omega arith))
 
 -- a grid has at most 2100 * 1652 squares
-pub few-squares : (j p : ℕ) → j ≤ 1652 → p ≤ 2100 → j * p ≤ 3469200
-few-squares j p h k = mul-le-mul h k
+pub few_squares : (j p : ℕ) → j ≤ 1652 → p ≤ 2100 → j * p ≤ 3469200
+few_squares j p h k = mul-le-mul h k
 
 pub each_like : (n : ℕ) (f g : ℕ → Program) (v : List ℤ) {u : List ℤ} → u ≡ run (each n f) v → ((k : ℕ) → k < n → f k ≡ g k) → u ≡ run (each n g) v
 each_like n f g v e h = rw (each_same n f g h) at e
 
-pub then-more : (p q : Program) (v : List ℤ) {w u : List ℤ} → w ≡ run p v → u ≡ run q w → u ≡ run (p then q) v
-then-more p q v a b = rw (run-then p q, ← a) b
+pub then_more : (p q : Program) (v : List ℤ) {w u : List ℤ} → w ≡ run p v → u ≡ run q w → u ≡ run (p then q) v
+then_more p q v a b = rw (run_then p q, ← a) b

@@ -10,15 +10,15 @@ use Rattle.lifting.specs.Program.{Program, end, apply, Operator, get, put, run, 
 use Rattle.lifting.proofs.Reverse.{length-put}
 use Rattle.lifting.proofs.Compose.{run-each}
 use Rattle.lifting.proofs.Between.{All, all_map, none_left}
-use Rattle.lifting.proofs.Locality.{Agree, agree_refl, get-same, use-outside}
-use Rattle.figures.specs.Figures.{squareFilter}
+use Rattle.lifting.proofs.Locality.{Agree, agree_refl, get-same, use_outside}
+use Rattle.figures.specs.Figures.{square_filter}
 use Rattle.transform.specs.Level.{strip, square}
 use Rattle.transform.proofs.Cells.{all-strip, all-square}
 use Rattle.grid.proofs.Squares.{used}
 use Rattle.inverse_levels.proofs.Loops.{each_more}
 
-pub length-square-filter : (v : List ℤ) → length (run squareFilter v) ≡ length v
-unfolding run_by squareFilter
+pub length-square-filter : (v : List ℤ) → length (run square_filter v) ≡ length v
+unfolding run_by square_filter
 length-square-filter v = simp length-put
 
 -- in a grid of w columns, the place i lies in the columns of square l of those from `first` on
@@ -39,10 +39,10 @@ square-beside w first l h =
     all-square (Beside w first l) w i (row-beside w first l 0 i h (omega arith)) (row-beside w first l 1 (i + w) h (omega arith)) (row-beside w first l 2 (i + w + w) h (omega arith))
     (row-beside w first l 3 (i + w + w + w) h (omega arith))
 
-pub side-more : (o : Operator) (s : Program) (w first l : ℕ) (v0 v x : List ℤ) {u : List ℤ} → 4 * l + 4 ≤ w → v ≡ run (each l (λ i. apply o s (square w (first + 4 * i)) end)) v0
+pub side_more : (o : Operator) (s : Program) (w first l : ℕ) (v0 v x : List ℤ) {u : List ℤ} → 4 * l + 4 ≤ w → v ≡ run (each l (λ i. apply o s (square w (first + 4 * i)) end)) v0
     → x ≡ run s (get (square w (first + 4 * l)) v0) → u ≡ put (square w (first + 4 * l)) x v → u ≡ run (each (l + 1) (λ i. apply o s (square w (first + 4 * i)) end)) v0
 unfolding run_by
-side-more o s w first l v0 v x {u} room before made stored =
+side_more o s w first l v0 v x {u} room before made stored =
     each_more l f v0 v u before (used o s its v (get its v) x refl (made ∙ ap (run s) (sym same)) stored)
   where
     f : ℕ → Program
@@ -54,7 +54,7 @@ side-more o s w first l v0 v x {u} room before made stored =
     agree : Agree (Beside w first l) (run (each l f) v0) v0
     agree =
         (none_left (Agree (Beside w first l)) l f
-        (λ i h. use-outside (Beside w first l) o s (square w (first + 4 * i)) (all_map {P = Beside w first i} {Q = λ k. ¬ Beside w first l k} (square w (first + 4 * i)) (λ k a b. absurd (omega (arith, a, b, h))) (square-beside w first i (omega arith))))
+        (λ i h. use_outside (Beside w first l) o s (square w (first + 4 * i)) (all_map {P = Beside w first i} {Q = λ k. ¬ Beside w first l k} (square w (first + 4 * i)) (λ k a b. absurd (omega (arith, a, b, h))) (square-beside w first i (omega arith))))
         ).runs v0 v0 agree_refl
 
     same : get its v ≡ get its v0
@@ -77,5 +77,5 @@ plus i (suc n) f g v h =
     one : suc (i + n) ≡ i + suc n
     one = omega arith
 
-pub each-plus : (i n : ℕ) (f g : ℕ → Program) (v w : List ℤ) {u : List ℤ} → w ≡ run (each i f) v → u ≡ run (each n g) w → ((k : ℕ) → k < n → g k ≡ f (i + k)) → u ≡ run (each (i + n) f) v
-each-plus i n f g v w a b same = b ∙ ap (run (each n g)) a ∙ plus i n f g v same
+pub each_plus : (i n : ℕ) (f g : ℕ → Program) (v w : List ℤ) {u : List ℤ} → w ≡ run (each i f) v → u ≡ run (each n g) w → ((k : ℕ) → k < n → g k ≡ f (i + k)) → u ≡ run (each (i + n) f) v
+each_plus i n f g v w a b same = b ∙ ap (run (each n g)) a ∙ plus i n f g v same

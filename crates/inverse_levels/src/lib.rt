@@ -3,8 +3,8 @@ mod windows; // windows.rt: windows of the square filter, up to four at a time
 
 ghost use Rattle.std.specs.Prelude.{◌≡◌, ◌+◌, ◌-◌, ◌*◌, ◌<◌, ◌≤◌, length};
 ghost use Rattle.lifting.specs.Program.{run, each, ◌then◌};
-ghost use Rattle.transform.specs.Level.{fourFilterAt, cornerFilterAt, rowFilters, columnFilters, alongEdges, cornerFilters, edgeFilters};
-ghost use Rattle.inverse_levels.specs.Stages.{windowRow, windowsIf, edgesIf};
+ghost use Rattle.transform.specs.Level.{four_filter_at, corner_filter_at, row_filters, column_filters, along_edges, corner_filters, edge_filters};
+ghost use Rattle.inverse_levels.specs.Stages.{window_row, windows_if, edges_if};
 
 use crate::windows::four_windows;
 use four_filter::four_filter;
@@ -14,7 +14,7 @@ use grid::{get_corner, get_four, put_corner, put_four};
 
 fn four_filter_at(grid: &mut [i32], step: usize, at: usize)
     requires { at + step + step + step < length grid.old }
-    ensures { grid.new ≡ run (fourFilterAt step at) grid.old }
+    ensures { grid.new ≡ run (four_filter_at step at) grid.old }
 {
     let v = get_four(grid, step, at);
     let f = four_filter(v[0], v[1], v[2], v[3]);
@@ -23,7 +23,7 @@ fn four_filter_at(grid: &mut [i32], step: usize, at: usize)
 
 fn four_filter_pair(grid: &mut [i32], step: usize, at: usize)
     requires { at + 1 + step + step + step < length grid.old }
-    ensures { grid.new ≡ run (fourFilterAt step at then fourFilterAt step (at + 1)) grid.old }
+    ensures { grid.new ≡ run (four_filter_at step at then four_filter_at step (at + 1)) grid.old }
 {
     four_filter_at(grid, step, at);
     four_filter_at(grid, step, at + 1);
@@ -31,7 +31,7 @@ fn four_filter_pair(grid: &mut [i32], step: usize, at: usize)
 
 fn corner_filter_at(grid: &mut [i32], w: usize, at: usize)
     requires { at + w + 1 < length grid.old }
-    ensures { grid.new ≡ run (cornerFilterAt w at) grid.old }
+    ensures { grid.new ≡ run (corner_filter_at w at) grid.old }
 {
     let v = get_corner(grid, w, at);
     let f = four_filter(v[0], v[1], v[2], v[3]);
@@ -44,7 +44,7 @@ fn corner_filter_at(grid: &mut [i32], w: usize, at: usize)
 fn square_filters_across(grid: &mut [i32], p: usize, j: usize)
     requires p_in_bounds { 16 * (j * p + p + p) ≤ length grid.old }
     requires p_nonzero { (0 < p) × (p ≤ 2100) × (j < 1652) }
-    ensures { grid.new ≡ run (windowRow p j) grid.old }
+    ensures { grid.new ≡ run (window_row p j) grid.old }
 {
     let w = 4 * p;
     let first = (4 * j + 2) * w + 2;
@@ -66,7 +66,7 @@ fn square_filters_across(grid: &mut [i32], p: usize, j: usize)
 fn window_rows(grid: &mut [i32], p: usize, q: usize, b: usize, n: usize)
     requires q_in_bounds { 16 * (p * q) ≤ length grid.old }
     requires p_nonzero { (0 < p) × (p ≤ 2100) × (b + n < q) × (q ≤ 1652) }
-    ensures { grid.new ≡ run (each n (λ k. windowRow p (b + k))) grid.old }
+    ensures { grid.new ≡ run (each n (λ k. window_row p (b + k))) grid.old }
 {
     for k in 0..n {
         square_filters_across(grid, p, b + k);
@@ -76,7 +76,7 @@ fn window_rows(grid: &mut [i32], p: usize, q: usize, b: usize, n: usize)
 fn row_filters(grid: &mut [i32], p: usize, q: usize, r: usize)
     requires q_in_bounds { 16 * (p * q) ≤ length grid.old }
     requires p_nonzero { (0 < p) × (p ≤ 2100) × (q ≤ 1652) × (r < 4 * q) }
-    ensures { grid.new ≡ run (rowFilters p r) grid.old }
+    ensures { grid.new ≡ run (row_filters p r) grid.old }
 {
     let first = r * (4 * p) + 2;
     let uses = p - 1;
@@ -89,7 +89,7 @@ fn row_filters(grid: &mut [i32], p: usize, q: usize, r: usize)
 fn column_pair(grid: &mut [i32], p: usize, q: usize, c: usize)
     requires q_in_bounds { 16 * (p * q) ≤ length grid.old }
     requires c_bound { (c + 1 < 4 * p) × (p ≤ 2100) × (0 < q) × (q ≤ 1652) }
-    ensures { grid.new ≡ run (columnFilters p q c then columnFilters p q (c + 1)) grid.old }
+    ensures { grid.new ≡ run (column_filters p q c then column_filters p q (c + 1)) grid.old }
 {
     let w = 4 * p;
     let first = 2 * w + c;
@@ -102,7 +102,7 @@ fn column_pair(grid: &mut [i32], p: usize, q: usize, c: usize)
 fn edge_rows(grid: &mut [i32], p: usize, q: usize)
     requires q_in_bounds { 16 * (p * q) ≤ length grid.old }
     requires p_nonzero { (0 < p) × (p ≤ 2100) × (0 < q) × (q ≤ 1652) }
-    ensures { grid.new ≡ run (alongEdges q (rowFilters p)) grid.old }
+    ensures { grid.new ≡ run (along_edges q (row_filters p)) grid.old }
 {
     row_filters(grid, p, q, 0);
     row_filters(grid, p, q, 1);
@@ -113,7 +113,7 @@ fn edge_rows(grid: &mut [i32], p: usize, q: usize)
 fn edge_columns(grid: &mut [i32], p: usize, q: usize)
     requires q_in_bounds { 16 * (p * q) ≤ length grid.old }
     requires p_nonzero { (0 < p) × (p ≤ 2100) × (0 < q) × (q ≤ 1652) }
-    ensures { grid.new ≡ run (alongEdges p (columnFilters p q)) grid.old }
+    ensures { grid.new ≡ run (along_edges p (column_filters p q)) grid.old }
 {
     column_pair(grid, p, q, 0);
     column_pair(grid, p, q, 4 * p - 2);
@@ -122,7 +122,7 @@ fn edge_columns(grid: &mut [i32], p: usize, q: usize)
 fn corners(grid: &mut [i32], p: usize, q: usize)
     requires q_in_bounds { 16 * (p * q) ≤ length grid.old }
     requires p_nonzero { (0 < p) × (p ≤ 2100) × (0 < q) × (q ≤ 1652) }
-    ensures { grid.new ≡ run (cornerFilters p q) grid.old }
+    ensures { grid.new ≡ run (corner_filters p q) grid.old }
 {
     let w = 4 * p;
     let right = w - 2;
@@ -136,7 +136,7 @@ fn corners(grid: &mut [i32], p: usize, q: usize)
 fn edges(grid: &mut [i32], p: usize, q: usize)
     requires q_in_bounds { 16 * (p * q) ≤ length grid.old }
     requires p_nonzero { (0 < p) × (p ≤ 2100) × (0 < q) × (q ≤ 1652) }
-    ensures { grid.new ≡ run (edgeFilters p q) grid.old }
+    ensures { grid.new ≡ run (edge_filters p q) grid.old }
 {
     edge_rows(grid, p, q);
     edge_columns(grid, p, q);
@@ -148,7 +148,7 @@ fn edges(grid: &mut [i32], p: usize, q: usize)
 pub fn windows_if(grid: &mut [i32], filtered: bool, p: usize, q: usize, b: usize, n: usize)
     requires q_in_bounds { 16 * (p * q) ≤ length grid.old }
     requires p_nonzero { (0 < p) × (p ≤ 2100) × (b + n < q) × (q ≤ 1652) }
-    ensures { grid.new ≡ run (windowsIf filtered p b n) grid.old }
+    ensures { grid.new ≡ run (windows_if filtered p b n) grid.old }
 {
     if filtered {
         window_rows(grid, p, q, b, n);
@@ -158,7 +158,7 @@ pub fn windows_if(grid: &mut [i32], filtered: bool, p: usize, q: usize, b: usize
 pub fn edges_if(grid: &mut [i32], filtered: bool, p: usize, q: usize)
     requires q_in_bounds { 16 * (p * q) ≤ length grid.old }
     requires p_nonzero { (0 < p) × (p ≤ 2100) × (0 < q) × (q ≤ 1652) }
-    ensures { grid.new ≡ run (edgesIf filtered p q) grid.old }
+    ensures { grid.new ≡ run (edges_if filtered p q) grid.old }
 {
     if filtered {
         edges(grid, p, q);

@@ -1,8 +1,8 @@
 // Windows of the overlap filter of squares, side by side, up to four at a time: the filter runs in four lanes, and each lane that is a window moves back to its place.
 ghost use Rattle.std.specs.Prelude.{◌≡◌, ℕ, ◌+◌, ◌*◌, ◌<◌, ◌≤◌, length};
 ghost use Rattle.lifting.specs.Program.{run, get, put, each};
-ghost use Rattle.figures.specs.Figures.{squareFilter};
-ghost use Rattle.transform.specs.Level.{square, squareFilterAt};
+ghost use Rattle.figures.specs.Figures.{square_filter};
+ghost use Rattle.transform.specs.Level.{square, square_filter_at};
 ghost use Rattle.lanes.specs.Lanes.{lane_of};
 
 use grid::{get_square, put_square};
@@ -13,7 +13,7 @@ fn four_square_filters(a: &[i32], b: &[i32], c: &[i32], d: &[i32], out: &mut [i3
     requires a_len { (length a.now ≡ 16) × (length b.now ≡ 16) × (length c.now ≡ 16) × (length d.now ≡ 16) }
     requires out_len { length out.old ≡ 64 }
     ensures { (l : ℕ) → l < 4 → get (square 16 (4 * l)) out.new ≡
-        run squareFilter (lane_of a.now b.now c.now d.now l) }
+        run square_filter (lane_of a.now b.now c.now d.now l) }
 {
     for l in 0..4 {
         put_square(out, 16, 4 * l, square_filter(lane(a, b, c, d, 12 - 4 * l)));
@@ -23,7 +23,7 @@ fn four_square_filters(a: &[i32], b: &[i32], c: &[i32], d: &[i32], out: &mut [i3
 // Four windows of a grid of w columns, the first at `at`, filtered side by side.
 fn filter_four(grid: &[i32], w: usize, at: usize, out: &mut [i32])
     requires { (at + w + w + w + 15 < length grid.now) × (length out.old ≡ 64) }
-    ensures { (l : ℕ) → l < 4 → get (square 16 (4 * l)) out.new ≡ run squareFilter (get (square w (at + 4 * l)) grid.now) }
+    ensures { (l : ℕ) → l < 4 → get (square 16 (4 * l)) out.new ≡ run square_filter (get (square w (at + 4 * l)) grid.now) }
 {
     let mut a = [0i32; 16];
     hold(grid, 4, at, &mut a);
@@ -48,7 +48,7 @@ fn move_square(s: &[i32], l: usize, grid: &mut [i32], w: usize, at: usize)
 // Each is stored from fixed places of the array, so that the array vanishes into registers.
 pub fn four_windows(grid: &mut [i32], w: usize, at: usize, n: usize)
     requires { (0 < n) × (n ≤ 4) × (4 * n ≤ w) × (at + w + w + w + 15 < length grid.old) }
-    ensures { grid.new ≡ run (each n (λ i. squareFilterAt w (at + 4 * i))) grid.old }
+    ensures { grid.new ≡ run (each n (λ i. square_filter_at w (at + 4 * i))) grid.old }
 {
     let mut out = [0i32; 64];
     filter_four(grid, w, at, &mut out);

@@ -1,14 +1,14 @@
 // The core transforms of level one, in place on a grid of p macroblocks across and q down.
 ghost use Rattle.std.specs.Prelude.{◌≡◌, ◌+◌, ◌*◌, ◌<◌, ◌≤◌, length};
 ghost use Rattle.lifting.specs.Program.{run, each};
-ghost use Rattle.transform.specs.Level.{cell, coreAt, cores as coreProgram};
+ghost use Rattle.transform.specs.Level.{cell, core_at, cores as coreProgram};
 
 use core_transform::core;
 use grid::{get_square, put_square};
 
 fn core_at(grid: &mut [i32], w: usize, at: usize)
     requires { at + w + w + w + 3 < length grid.old }
-    ensures { grid.new ≡ run (coreAt w at) grid.old }
+    ensures { grid.new ≡ run (core_at w at) grid.old }
 {
     let b = core(get_square(grid, w, at));
     put_square(grid, w, at, b);
@@ -18,7 +18,7 @@ fn core_at(grid: &mut [i32], w: usize, at: usize)
 fn cores_across(grid: &mut [i32], p: usize, j: usize)
     requires p_in_bounds { 16 * (j * p + p) ≤ length grid.old }
     requires p_bound { (p ≤ 525) × (j < 413) }
-    ensures { grid.new ≡ run (each p (λ i. coreAt (4 * p) (cell p (4 * j) (4 * i)))) grid.old }
+    ensures { grid.new ≡ run (each p (λ i. core_at (4 * p) (cell p (4 * j) (4 * i)))) grid.old }
 {
     let squares = p % 4096;
     let w = 4 * squares;

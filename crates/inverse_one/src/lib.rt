@@ -5,10 +5,10 @@ ghost use Rattle.std.specs.Prelude.{◌≡◌, ◌+◌, ◌*◌, ◌<◌, length
 ghost use Rattle.lifting.specs.Program.{run, put, at as number};
 ghost use Rattle.transform.specs.Level.{square, level};
 ghost use Rattle.picture.specs.Table.{table};
-ghost use Rattle.transform.specs.Grids.{coefficients, firstGrid};
+ghost use Rattle.transform.specs.Grids.{coefficients, first_grid};
 ghost use Rattle.picture.specs.Sizes.{macroblocks, Sized};
 ghost use Rattle.inverse_levels.specs.Filled.{Filled};
-ghost use Rattle.inverse_one.specs.Rows.{planeNumbers, Between};
+ghost use Rattle.inverse_one.specs.Rows.{plane_numbers, Between};
 
 use crate::cores::cores;
 use grid::{get_four, put_square};
@@ -43,7 +43,7 @@ fn grid_row(
     requires at_value { (at ≡ r * (16 * size.width.0)) × (m ≡ r * size.width.0) × (from ≡ r * (15 * size.width.0)) }
     requires view_len { length view.old ≡ 16 * macroblocks size }
     requires dc_len { (length dc.now ≡ macroblocks size) × (length low.now ≡ 15 * macroblocks size) }
-    ensures { Filled size.width.0 (planeNumbers dc.now low.now) view.old (Between m (m + size.width.0)) view.new }
+    ensures { Filled size.width.0 (plane_numbers dc.now low.now) view.old (Between m (m + size.width.0)) view.new }
 {
     let p = size.width.0 as usize;
     let w = size.width.blocks().0 as usize;
@@ -57,7 +57,7 @@ fn first_grid(view: &mut [i32], size: Size, dc: &[i32], low: &[i32])
     requires sized { Sized size }
     requires view_len { length view.old ≡ 16 * macroblocks size }
     requires dc_len { (length dc.now ≡ macroblocks size) × (length low.now ≡ 15 * macroblocks size) }
-    ensures { view.new ≡ firstGrid size.width.0 size.height.0 dc.now low.now }
+    ensures { view.new ≡ first_grid size.width.0 size.height.0 dc.now low.now }
 {
     let across = size.width.0 as usize;
     let down = size.height.0 as usize;
@@ -78,7 +78,7 @@ pub fn level_one(view: &mut [i32], filtered: bool, size: Size, dc: &[i32], low: 
     requires view_len { length view.old ≡ 16 * macroblocks size }
     requires dc_len { (length dc.now ≡ macroblocks size) × (length low.now ≡ 15 * macroblocks size) }
     ensures { view.new ≡
-        run (level filtered size.width.0 size.height.0) (firstGrid size.width.0 size.height.0 dc.now low.now) }
+        run (level filtered size.width.0 size.height.0) (first_grid size.width.0 size.height.0 dc.now low.now) }
 {
     first_grid(view, size, dc, low);
     let across = size.width.0 as usize;

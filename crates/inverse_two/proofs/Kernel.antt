@@ -8,17 +8,17 @@ use lib.IntN.{ℤ}
 use Rattle.lifting.specs.Program.{at, get, run, run_by}
 use Rattle.lifting.proofs.Reverse.{length-put}
 use Rattle.figures.specs.Block.{four, flat}
-use Rattle.figures.specs.Figures.{core, coreStages}
+use Rattle.figures.specs.Figures.{core, core_stages}
 use Rattle.figures.proofs.Parts.{place}
 use Rattle.transform.specs.Level.{strip, square}
 use Rattle.picture.specs.Table.{table}
 use Rattle.transform.specs.Grids.{coefficients}
 use Rattle.lanes.specs.Lanes.{InLanes, Placed}
 use Rattle.lanes.proofs.Rows.{four-numbers, joined}
-use Rattle.inverse_two.specs.Blocks.{blockFrom, blockInLane, FourBlocks}
+use Rattle.inverse_two.specs.Blocks.{block_from, block_in_lane, FourBlocks}
 
 pub length-core : (v : List ℤ) → length (run core v) ≡ 16
-unfolding run_by core coreStages get
+unfolding run_by core core_stages get
 length-core v = simp length-put
 
 top-row : {x x' y y' z z' w w' : ℤ} → x ≡ x' → y ≡ y' → z ≡ z' → w ≡ w' → x ∷ y ∷ z ∷ w ∷ [] ≡ x' ∷ y' ∷ z' ∷ w' ∷ []
@@ -26,7 +26,7 @@ top-row a b c d = rw (a, b, c, d)
 
 -- a block put together from its coefficient 0 and four rows
 pub block_read : (z z' x y w : ℤ) (p q r s a b c d : List ℤ) (i : ℕ) → z ≡ z' → x ≡ at p 0 → y ≡ at p 1 → w ≡ at p 2 → four p ≡ get (strip 1 i) a → four q ≡ get (strip 1 i) b → four r ≡ get (strip 1 i) c → four s ≡ get (strip 1 i) d
-    → flat ((z ∷ x ∷ y ∷ w ∷ []) ∷ q ∷ r ∷ s ∷ []) ≡ blockFrom z' a b c d i
+    → flat ((z ∷ x ∷ y ∷ w ∷ []) ∷ q ∷ r ∷ s ∷ []) ≡ block_from z' a b c d i
 unfolding flat get
 block_read z z' x y w p q r s a b c d i o e f g h k l m = joined (top-row o (e ∙ place 0 h) (f ∙ place 1 h) (g ∙ place 2 h)) k l m
 
@@ -41,18 +41,18 @@ module _ (grid high zeros : List ℤ) {a b c d : List ℤ} (m from : ℕ) (read 
   number (suc (suc (suc zero))) h = place 3 read ∙ ap (at grid) (omega arith)
   number (suc (suc (suc (suc l)))) h = absurd (omega arith)
 
-  coefficients-held : (l : ℕ) → l < 4 → blockInLane zeros a b c d l ≡ table 16 (coefficients (at grid (m + l)) (λ k. at high (from + 15 * l + k)))
+  coefficients_held : (l : ℕ) → l < 4 → block_in_lane zeros a b c d l ≡ table 16 (coefficients (at grid (m + l)) (λ k. at high (from + 15 * l + k)))
   unfolding get table
-  coefficients-held l h =
+  coefficients_held l h =
       joined
       (top-row (number l h) (place 0 (p.own l h) ∙ ap (at high) (omega arith)) (place 1 (p.own l h)) (place 2 (p.own l h) ∙ ap (at high) (omega arith)))
       (q.own l h ∙ four-numbers high (omega arith) (omega arith) (omega arith) (omega arith))
       (r.own l h ∙ four-numbers high (omega arith) (omega arith) (omega arith) (omega arith))
       (s.own l h ∙ four-numbers high (omega arith) (omega arith) (omega arith) (omega arith))
 
-  pub four-cored : {out u : List ℤ} (w first : ℕ) → ((l : ℕ) → l < 4 → get (square 16 (4 * l)) out ≡ run core (blockInLane zeros a b c d l)) → Placed out grid w first u → FourBlocks grid high w first m from u
+  pub four-cored : {out u : List ℤ} (w first : ℕ) → ((l : ℕ) → l < 4 → get (square 16 (4 * l)) out ≡ run core (block_in_lane zeros a b c d l)) → Placed out grid w first u → FourBlocks grid high w first m from u
   four-cored w first cores placed = record {
     len = placed.len;
-    own = λ l h. placed.own l h ∙ cores l h ∙ ap (run core) (coefficients-held l h);
+    own = λ l h. placed.own l h ∙ cores l h ∙ ap (run core) (coefficients_held l h);
     rest = placed.rest;
   }

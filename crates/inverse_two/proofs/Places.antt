@@ -12,11 +12,11 @@ use lib.IntN.{ℤ}
 use Rattle.lifting.specs.Program.{at, run}
 use Rattle.figures.specs.Figures.{core}
 use Rattle.picture.specs.Table.{table}
-use Rattle.transform.specs.Grids.{coefficients, blockOrder, squareOf, place}
+use Rattle.transform.specs.Grids.{coefficients, block_order, square_of, place}
 use Rattle.lanes.proofs.Rows.{square-at}
 use Rattle.inverse_levels.specs.Filled.{Filled}
-use Rattle.inverse_levels.proofs.Filled.{square-not-after, filled-join, filled-same}
-use Rattle.inverse_two.specs.Blocks.{blockNumbers, cored, InRows, InBlocks, RowsCored, BlocksCored, FourBlocks}
+use Rattle.inverse_levels.proofs.Filled.{square-not-after, filled_join, filled_same}
+use Rattle.inverse_two.specs.Blocks.{block_numbers, cored, InRows, InBlocks, RowsCored, BlocksCored, FourBlocks}
 
 module _ {W : ℕ} (wide : 0 < W) where
   row-wide : 0 < 4 * W
@@ -25,7 +25,7 @@ module _ {W : ℕ} (wide : 0 < W) where
   -- ---- four blocks side by side
 
   -- a place among the four squares lies in one of the four
-  four-square : (y c r x i : ℕ) → c < W → r < 4 → x < 16 → i ≡ 4 * y * (4 * (4 * W)) + 16 * c + r * (4 * (4 * W)) + x → InBlocks W y (y + 1) c (c + 1) (squareOf (4 * W) i)
+  four-square : (y c r x i : ℕ) → c < W → r < 4 → x < 16 → i ≡ 4 * y * (4 * (4 * W)) + 16 * c + r * (4 * (4 * W)) + x → InBlocks W y (y + 1) c (c + 1) (square_of (4 * W) i)
   four-square y c r x i inside h l e = ((omega (arith, row), omega (arith, row)), (omega (arith, part), omega (arith, part)))
     where
       column : 4 * c + x / 4 < 4 * W
@@ -43,25 +43,25 @@ module _ {W : ℕ} (wide : 0 < W) where
       right : i % (4 * (4 * W)) / 4 ≡ 4 * c + x / 4
       right = rw (there, digits_mod (4 * y + r) far) (omega arith)
 
-      is : squareOf (4 * W) i ≡ y * (4 * W) + (4 * c + x / 4)
+      is : square_of (4 * W) i ≡ y * (4 * W) + (4 * c + x / 4)
       is = rw (down, right)
 
-      row : squareOf (4 * W) i / (4 * W) ≡ y
+      row : square_of (4 * W) i / (4 * W) ≡ y
       row = rw is (digits_div y column)
 
-      part : squareOf (4 * W) i % (4 * W) / 4 ≡ c
+      part : square_of (4 * W) i % (4 * W) / 4 ≡ c
       part = rw (is, digits_mod y column) (omega arith)
 
   -- what the kernel does is to fill the four blocks with their core transforms
-  pub four-filled : (y c first b from : ℕ) {old high v : List ℤ} → c < W → first ≡ 4 * y * (4 * (4 * W)) + 16 * c → b ≡ y * (4 * W) + 4 * c → from ≡ 240 * (y / 4 * W + c) + 60 * (y % 4)
+  pub four_filled : (y c first b from : ℕ) {old high v : List ℤ} → c < W → first ≡ 4 * y * (4 * (4 * W)) + 16 * c → b ≡ y * (4 * W) + 4 * c → from ≡ 240 * (y / 4 * W + c) + 60 * (y % 4)
       → FourBlocks old high (4 * (4 * W)) first b from v → BlocksCored W high old y (y + 1) c (c + 1) v
-  four-filled y c first b from {old} {high} {v} inside there number order r = record {
+  four_filled y c first b from {old} {high} {v} inside there number order r = record {
     len = r.len;
     done = done;
     rest = λ i n. r.rest i (λ m x h l e. n (four-square y c m x i inside h l (omega (arith, e, there))));
   }
     where
-      done : (s k : ℕ) → InBlocks W y (y + 1) c (c + 1) s → k < 16 → at v (place (4 * W) s k) ≡ cored (blockNumbers W old high) s k
+      done : (s k : ℕ) → InBlocks W y (y + 1) c (c + 1) s → k < 16 → at v (place (4 * W) s k) ≡ cored (block_numbers W old high) s k
       done s k h m =
           ap (at v) place_is
           ∙ sym (square-at (4 * (4 * W)) (first + 4 * l) v k m)
@@ -86,12 +86,12 @@ module _ {W : ℕ} (wide : 0 < W) where
           number_is : b + l ≡ s
           number_is = omega (arith, number, column, rw row at (div-add-mod' s (4 * W)))
 
-          order_is : from + 15 * l ≡ 15 * blockOrder W s
+          order_is : from + 15 * l ≡ 15 * block_order W s
           order_is = rw (row, part) (omega (arith, order))
 
   -- ---- in which row of blocks the number of block b lies, as a sample
 
-  square-row : (b : ℕ) → squareOf (4 * W) b / (4 * W) ≡ b / (4 * W) / 4 / 4
+  square-row : (b : ℕ) → square_of (4 * W) b / (4 * W) ≡ b / (4 * W) / 4 / 4
   square-row b = digits_div (b / (4 * (4 * W)) / 4) column ∙ ap (λ (n : ℕ). n / 4) (ap (λ (m : ℕ). b / m) wide_is ∙ sym (div-div-eq-div-mul b (4 * W) 4))
     where
       column : b % (4 * (4 * W)) / 4 < 4 * W
@@ -101,43 +101,43 @@ module _ {W : ℕ} (wide : 0 < W) where
       wide_is = omega arith
 
   -- the number of a block that is filled later is still the old one
-  later : {old v : List ℤ} (high : List ℤ) {f : ℕ → ℕ → ℤ} {P : ℕ → Type 0} → Filled (4 * W) f old P v → (b : ℕ) → ¬ P (squareOf (4 * W) b) → (k : ℕ) → cored (blockNumbers W v high) b k ≡ cored (blockNumbers W old high) b k
-  later high r b n k = ap (λ x. cored (λ t. coefficients x (λ i. at high (15 * blockOrder W t + i))) b k) (r.rest b n)
+  later : {old v : List ℤ} (high : List ℤ) {f : ℕ → ℕ → ℤ} {P : ℕ → Type 0} → Filled (4 * W) f old P v → (b : ℕ) → ¬ P (square_of (4 * W) b) → (k : ℕ) → cored (block_numbers W v high) b k ≡ cored (block_numbers W old high) b k
+  later high r b n k = ap (λ x. cored (λ t. coefficients x (λ i. at high (15 * block_order W t + i))) b k) (r.rest b n)
 
   -- ---- parts of the grid joined
 
   -- no number of the blocks in rows y to e and columns c to d lies where those of columns n to k do
   abbrev Free : ℕ → ℕ → ℕ → ℕ → ℕ → ℕ → Type 0
-  Free y e c d n k = (s : ℕ) → InBlocks W y e c d s → ¬ InBlocks W y e n k (squareOf (4 * W) s)
+  Free y e c d n k = (s : ℕ) → InBlocks W y e c d s → ¬ InBlocks W y e n k (square_of (4 * W) s)
 
   decided : (y e c d b : ℕ) → Dec (InBlocks W y e c d b)
   decided y e c d b = Dec.and (Dec.and (dec_le _ _) (dec_lt _ _)) (Dec.and (dec_le _ _) (dec_lt _ _))
 
   pub blocks-all : (high : List ℤ) (y e : ℕ) {old v : List ℤ} → BlocksCored W high old y e 0 W v → RowsCored W high old y e v
-  blocks-all high y e = filled-same (InRows W y e) (λ b h. (h, (omega arith, omega (arith, mod-lt b {m = 4 * W} row-wide)))) (λ b h. h.0)
+  blocks-all high y e = filled_same (InRows W y e) (λ b h. (h, (omega arith, omega (arith, mod-lt b {m = 4 * W} row-wide)))) (λ b h. h.0)
 
   -- rows y to m, above rows n to e, where m is n
   pub above : (high : List ℤ) (y m n e c d : ℕ) {old v u : List ℤ} → y ≤ m → m ≤ e → m ≡ n → BlocksCored W high old n e c d v → BlocksCored W high v y m c d u → BlocksCored W high old y e c d u
   above high y m n e c d l h same r t =
-      filled-join row-wide (InBlocks W y e c d) (decided y m c d)
+      filled_join row-wide (InBlocks W y e c d) (decided y m c d)
       (λ s i o. by_cases (dec_lt (s / (4 * W)) m) (λ z. absurd (o ((i.0.0, z), i.1))) (λ z. ((omega (arith, z, same), i.0.1), i.1)))
       (λ s i. ((omega (arith, i, same), i.0.1), i.1)) (λ s i. ((i.0.0, omega (arith, i)), i.1)) (λ s k i z. later high r s (λ p. absurd (omega (arith, i, p, same, square-row s))) k) r t
 
   -- columns c to m, left of columns n to d, where m is n
   pub left-of : (high : List ℤ) (y e c m n d : ℕ) {old v u : List ℤ} → c ≤ m → m ≤ d → m ≡ n → Free y e c m n d → BlocksCored W high old y e n d v → BlocksCored W high v y e c m u → BlocksCored W high old y e c d u
   left-of high y e c m n d l h same free r t =
-      filled-join row-wide (InBlocks W y e c d) (decided y e c m)
+      filled_join row-wide (InBlocks W y e c d) (decided y e c m)
       (λ s i o. by_cases (dec_lt (s % (4 * W) / 4) m) (λ z. absurd (o (i.0, (i.1.0, z)))) (λ z. (i.0, (omega (arith, z, same), i.1.1))))
       (λ s i. (i.0, (omega (arith, i, same), i.1.1))) (λ s i. (i.0, (i.1.0, omega (arith, i)))) (λ s k i z. later high r s (free s i) k) r t
 
   -- the numbers of rows that are not the topmost four lie above them
-  pub free-below : (y e c m n d : ℕ) → e ≤ 16 * y → Free y e c m n d
-  free-below y e c m n d h s i p = omega (arith, i, p, square-row s)
+  pub free_below : (y e c m n d : ℕ) → e ≤ 16 * y → Free y e c m n d
+  free_below y e c m n d h s i p = omega (arith, i, p, square-row s)
 
   -- in one row of blocks, none lies after its block
-  pub free-row : (y c m n d : ℕ) → m ≤ n → Free y (y + 1) c m n d
-  free-row y c m n d h s i p =
-      let t = squareOf (4 * W) s in
+  pub free_row : (y c m n d : ℕ) → m ≤ n → Free y (y + 1) c m n d
+  free_row y c m n d h s i p =
+      let t = square_of (4 * W) s in
       let a : s / (4 * W) ≡ y = omega (arith, i) in
       let b : t / (4 * W) ≡ y = omega (arith, p) in
       omega (arith, i, p, square-not-after row-wide s, rw a at (div-add-mod' s (4 * W)), rw b at (div-add-mod' t (4 * W)))

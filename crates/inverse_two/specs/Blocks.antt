@@ -4,13 +4,13 @@ use Rattle.lifting.specs.Program.{at, get, run}
 use Rattle.figures.specs.Figures.{core}
 use Rattle.transform.specs.Level.{strip, square}
 use Rattle.picture.specs.Table.{table}
-use Rattle.transform.specs.Grids.{coefficients, blockOrder}
+use Rattle.transform.specs.Grids.{coefficients, block_order}
 use Rattle.lanes.specs.Lanes.{Outside}
 use Rattle.inverse_levels.specs.Filled.{Filled}
 
 -- the coefficients of each block of a picture W macroblocks wide: the number that level one left at its place, and its high-pass numbers
-abbrev pub blockNumbers : ℕ → List ℤ → List ℤ → ℕ → ℕ → ℤ
-blockNumbers W view high b = coefficients (at view b) (λ k. at high (15 * blockOrder W b + k))
+abbrev pub block_numbers : ℕ → List ℤ → List ℤ → ℕ → ℕ → ℤ
+block_numbers W view high b = coefficients (at view b) (λ k. at high (15 * block_order W b + k))
 
 -- coefficients after the core transform
 abbrev pub cored : (ℕ → ℕ → ℤ) → ℕ → ℕ → ℤ
@@ -26,19 +26,19 @@ InBlocks W y e c d b = InRows W y e b × ((c ≤ b % (4 * W) / 4) × (b % (4 * W
 
 -- in the samples v of a picture W macroblocks wide, those rows of blocks hold the core transforms of their coefficients, and the rest is the old
 abbrev pub RowsCored : ℕ → List ℤ → List ℤ → ℕ → ℕ → List ℤ → Type 0
-RowsCored W high old y e v = Filled (4 * W) (cored (blockNumbers W old high)) old (InRows W y e) v
+RowsCored W high old y e v = Filled (4 * W) (cored (block_numbers W old high)) old (InRows W y e) v
 
 -- the same of the blocks in those rows and columns
 abbrev pub BlocksCored : ℕ → List ℤ → List ℤ → ℕ → ℕ → ℕ → ℕ → List ℤ → Type 0
-BlocksCored W high old y e c d v = Filled (4 * W) (cored (blockNumbers W old high)) old (InBlocks W y e c d) v
+BlocksCored W high old y e c d v = Filled (4 * W) (cored (block_numbers W old high)) old (InBlocks W y e c d) v
 
 -- a block in lanes, its numbers from place i on: coefficient 0 by itself, and coefficients 1 to 4, 4 to 7, 8 to 11 and 12 to 15 in four rows
-abbrev pub blockFrom : ℤ → List ℤ → List ℤ → List ℤ → List ℤ → ℕ → List ℤ
-blockFrom zero a b c d i = (zero ∷ at a i ∷ at a (i + 1) ∷ at a (i + 1 + 1) ∷ []) ++ get (strip 1 i) b ++ get (strip 1 i) c ++ get (strip 1 i) d
+abbrev pub block_from : ℤ → List ℤ → List ℤ → List ℤ → List ℤ → ℕ → List ℤ
+block_from zero a b c d i = (zero ∷ at a i ∷ at a (i + 1) ∷ at a (i + 1 + 1) ∷ []) ++ get (strip 1 i) b ++ get (strip 1 i) c ++ get (strip 1 i) d
 
 -- the block of lane l
-abbrev pub blockInLane : List ℤ → List ℤ → List ℤ → List ℤ → List ℤ → ℕ → List ℤ
-blockInLane zeros a b c d l = blockFrom (at zeros l) a b c d (12 - 4 * l)
+abbrev pub block_in_lane : List ℤ → List ℤ → List ℤ → List ℤ → List ℤ → ℕ → List ℤ
+block_in_lane zeros a b c d l = block_from (at zeros l) a b c d (12 - 4 * l)
 
 -- four blocks b to b + 3 side by side, whose high-pass numbers stand from `from` on: their squares, the first at `first`, hold their core transforms
 pub record FourBlocks (old high : List ℤ) (w first b from : ℕ) (v : List ℤ) : Type 0 where

@@ -5,7 +5,7 @@ ghost use Rattle.figures.specs.Block.{flat};
 ghost use Rattle.figures.specs.Figures.{core as coreLines};
 ghost use Rattle.transform.specs.Level.{square};
 ghost use Rattle.large_numbers.specs.Small.{Small};
-ghost use Rattle.inverse_two.specs.Blocks.{blockFrom, blockInLane, FourBlocks};
+ghost use Rattle.inverse_two.specs.Blocks.{block_from, block_in_lane, FourBlocks};
 
 use core_transform::core;
 use grid::{get_four, put_square};
@@ -15,7 +15,7 @@ use large_numbers::some_large;
 // The block of the lane whose numbers stand from `at` on: coefficient 0, then coefficients 1 to 4, 4 to 7, 8 to 11 and 12 to 15, of which 4 stands there twice.
 fn block(zero: i32, a: &[i32], b: &[i32], c: &[i32], d: &[i32], at: usize) -> [[i32; 4]; 4]
     requires { (at + 3 < length a.now) × (at + 3 < length b.now) × (at + 3 < length c.now) × (at + 3 < length d.now) }
-    ensures { flat result ≡ blockFrom zero a.now b.now c.now d.now at }
+    ensures { flat result ≡ block_from zero a.now b.now c.now d.now at }
 {
     let first = get_four(a, 1, at);
     let top = [zero, first[0], first[1], first[2]];
@@ -31,7 +31,7 @@ fn four_cores(zeros: &[i32], a: &[i32], b: &[i32], c: &[i32], d: &[i32], out: &m
     requires a_len { (length a.now ≡ 16) × (length b.now ≡ 16) × (length c.now ≡ 16) × (length d.now ≡ 16) }
     requires zeros_len { (length zeros.now ≡ 4) × (length out.old ≡ 64) }
     ensures { (l : ℕ) → l < 4 → get (square 16 (4 * l)) out.new ≡
-        run coreLines (blockInLane zeros.now a.now b.now c.now d.now l) }
+        run coreLines (block_in_lane zeros.now a.now b.now c.now d.now l) }
 {
     for l in 0..4 {
         put_square(

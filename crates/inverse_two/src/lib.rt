@@ -5,7 +5,7 @@ ghost use Rattle.std.specs.Prelude.{◌≡◌, false, ℕ, ◌+◌, ◌*◌, ◌
 ghost use Rattle.lifting.specs.Program.{run};
 ghost use Rattle.lifting.specs.Wraps.{Within};
 ghost use Rattle.transform.specs.Level.{level};
-ghost use Rattle.transform.specs.Grids.{secondGrid};
+ghost use Rattle.transform.specs.Grids.{second_grid};
 ghost use Rattle.picture.specs.Sizes.{macroblocks, Sized};
 ghost use Rattle.large_numbers.specs.Small.{Small};
 ghost use Rattle.inverse_two.specs.Blocks.{RowsCored, BlocksCored};
@@ -156,7 +156,7 @@ pub fn level_two(samples: &mut [i32], filtered: bool, size: Size, high: &[i32]) 
     requires samples_len { length samples.old ≡ 256 * macroblocks size }
     requires high_len { length high.now ≡ 240 * macroblocks size }
     ensures samples_after { samples.new ≡
-        run (level filtered (4 * size.width.0) (4 * size.height.0)) (secondGrid size.width.0 size.height.0 (take (16 * macroblocks size) samples.old) high.now) }
+        run (level filtered (4 * size.width.0) (4 * size.height.0)) (second_grid size.width.0 size.height.0 (take (16 * macroblocks size) samples.old) high.now) }
     ensures within { result ≡ false → Within 33554432 high.now }
 {
     let width = size.width.0 as usize;

@@ -1,22 +1,22 @@
 -- The pictures are computed.
 use mathlib.Core.Path.{refl}
 use Rattle.lifting.specs.Wrap.{wrap}
-use Rattle.lifting.specs.Program.{get, put, ◌then◌, each, lineBy, run_by, valueBy}
-use Rattle.figures.specs.Figures.{hadamard, odd, oddOdd, core, coreStages, rotation, scale, postHadamard, postOddOdd, fourFilter, squareFilter}
-use Rattle.transform.specs.Level.{square, coreAt, squareFilterAt, fourFilterAt, cornerFilterAt, cores, squareFilters, rowFilters, columnFilters, cornerFilters, filters, level}
+use Rattle.lifting.specs.Program.{get, put, ◌then◌, each, line_by, run_by, value_by}
+use Rattle.figures.specs.Figures.{hadamard, odd, odd_odd, core, core_stages, rotation, scale, post_hadamard, post_odd_odd, four_filter, square_filter}
+use Rattle.transform.specs.Level.{square, core_at, square_filter_at, four_filter_at, corner_filter_at, cores, square_filters, row_filters, column_filters, corner_filters, filters, level}
 use Rattle.picture.specs.Table.{table}
-use Rattle.transform.specs.Grids.{grid, firstGrid, secondGrid}
-use Rattle.transform.specs.Transform.{quarterBy, inverseBy}
+use Rattle.transform.specs.Grids.{grid, first_grid, second_grid}
+use Rattle.transform.specs.Transform.{quarter_by, inverse_by}
 use Rattle.known_answers.specs.Pictures.{LowPassOrder, BlockOrder, QuarterViews}
 
-pub low-pass-order : LowPassOrder
-unfolding wrap run_by lineBy valueBy get put ◌then◌ each hadamard odd oddOdd core coreStages square coreAt cores level table grid firstGrid quarterBy
-low-pass-order = refl
+pub low_pass_order : LowPassOrder
+unfolding wrap run_by line_by value_by get put ◌then◌ each hadamard odd odd_odd core core_stages square core_at cores level table grid first_grid quarter_by
+low_pass_order = refl
 
-pub block-order : BlockOrder
-unfolding wrap run_by lineBy valueBy get put ◌then◌ each hadamard odd oddOdd core coreStages square coreAt cores level table grid firstGrid secondGrid quarterBy inverseBy
-block-order = refl
+pub block_order_lem : BlockOrder
+unfolding wrap run_by line_by value_by get put ◌then◌ each hadamard odd odd_odd core core_stages square core_at cores level table grid first_grid second_grid quarter_by inverse_by
+block_order_lem = refl
 
-pub quarter-views : QuarterViews
-unfolding wrap run_by lineBy valueBy get put ◌then◌ each hadamard odd oddOdd core coreStages rotation scale postHadamard postOddOdd fourFilter squareFilter square coreAt squareFilterAt fourFilterAt cornerFilterAt cores squareFilters rowFilters columnFilters cornerFilters filters level table grid firstGrid secondGrid quarterBy inverseBy
-quarter-views = (refl, refl)
+pub quarter_views : QuarterViews
+unfolding wrap run_by line_by value_by get put ◌then◌ each hadamard odd odd_odd core core_stages rotation scale post_hadamard post_odd_odd four_filter square_filter square core_at square_filter_at four_filter_at corner_filter_at cores square_filters row_filters column_filters corner_filters filters level table grid first_grid second_grid quarter_by inverse_by
+quarter_views = (refl, refl)

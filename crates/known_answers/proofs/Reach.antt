@@ -1,18 +1,18 @@
 -- The pictures are computed.
 use mathlib.Core.Path.{refl}
 use Rattle.lifting.specs.Wrap.{wrap}
-use Rattle.lifting.specs.Program.{get, put, ◌then◌, each, lineBy, run_by, valueBy}
-use Rattle.figures.specs.Figures.{hadamard, odd, oddOdd, core, coreStages, rotation, scale, postHadamard, postOddOdd, fourFilter, squareFilter}
-use Rattle.transform.specs.Level.{square, coreAt, squareFilterAt, fourFilterAt, cornerFilterAt, cores, squareFilters, rowFilters, columnFilters, cornerFilters, filters, level}
+use Rattle.lifting.specs.Program.{get, put, ◌then◌, each, line_by, run_by, value_by}
+use Rattle.figures.specs.Figures.{hadamard, odd, odd_odd, core, core_stages, rotation, scale, post_hadamard, post_odd_odd, four_filter, square_filter}
+use Rattle.transform.specs.Level.{square, core_at, square_filter_at, four_filter_at, corner_filter_at, cores, square_filters, row_filters, column_filters, corner_filters, filters, level}
 use Rattle.picture.specs.Table.{table}
-use Rattle.transform.specs.Grids.{grid, firstGrid, secondGrid}
-use Rattle.transform.specs.Transform.{quarterBy, inverseBy}
+use Rattle.transform.specs.Grids.{grid, first_grid, second_grid}
+use Rattle.transform.specs.Transform.{quarter_by, inverse_by}
 use Rattle.known_answers.specs.Reach.{MacroblockReach, BlockReach}
 
-pub macroblock-reach : MacroblockReach
-unfolding wrap run_by lineBy valueBy get put ◌then◌ each hadamard odd oddOdd core coreStages rotation scale postHadamard postOddOdd fourFilter squareFilter square coreAt squareFilterAt fourFilterAt cornerFilterAt cores squareFilters rowFilters columnFilters cornerFilters filters level table grid firstGrid secondGrid quarterBy inverseBy
-macroblock-reach = (refl, refl, refl, refl)
+pub macroblock_reach : MacroblockReach
+unfolding wrap run_by line_by value_by get put ◌then◌ each hadamard odd odd_odd core core_stages rotation scale post_hadamard post_odd_odd four_filter square_filter square core_at square_filter_at four_filter_at corner_filter_at cores square_filters row_filters column_filters corner_filters filters level table grid first_grid second_grid quarter_by inverse_by
+macroblock_reach = (refl, refl, refl, refl)
 
-pub block-reach : BlockReach
-unfolding wrap run_by lineBy valueBy get put ◌then◌ each hadamard odd oddOdd core coreStages rotation scale postHadamard postOddOdd fourFilter squareFilter square coreAt squareFilterAt fourFilterAt cornerFilterAt cores squareFilters rowFilters columnFilters cornerFilters filters level table grid firstGrid secondGrid quarterBy inverseBy
-block-reach = (refl, refl)
+pub block_reach : BlockReach
+unfolding wrap run_by line_by value_by get put ◌then◌ each hadamard odd odd_odd core core_stages rotation scale post_hadamard post_odd_odd four_filter square_filter square core_at square_filter_at four_filter_at corner_filter_at cores square_filters row_filters column_filters corner_filters filters level table grid first_grid second_grid quarter_by inverse_by
+block_reach = (refl, refl)

@@ -12,8 +12,8 @@ use Rattle.known_answers.specs.Tables.{StarredValues, weighted, ReferenceRows}
 row : (i : ℕ) → get_or (map (λ v. run v.operator v.input) starred) i [] ≡ get_or (map (λ v. v.output) starred) i []
 row i = ap (λ (l : List (List ℤ)). get_or l i []) starred-hold.outputs
 
-pub starred-values : StarredValues
-starred-values =
+pub starred_values : StarredValues
+starred_values =
     record {
       four-0 = row 0;
       one-0 = row 1;
@@ -26,7 +26,7 @@ starred-values =
       rotation-1 = row 8;
       scale-8 = row 9;
       scale-minus-1 = row 10;
-      post-hadamard-8 = row 11;
+      post_hadamard_8 = row 11;
       core-0 = row 12;
       core-1 = row 13;
     }

@@ -1,16 +1,16 @@
 -- What is told is computed, level by level.
 use mathlib.Core.Path.{refl}
 use Rattle.lifting.specs.Wrap.{wrap}
-use Rattle.lifting.specs.Wraps.{changes, valueWraps, lineWraps, wraps}
-use Rattle.lifting.specs.Program.{get, put, ◌then◌, each, lineBy, run_by, valueBy}
-use Rattle.figures.specs.Figures.{hadamard, odd, oddOdd, core, coreStages}
-use Rattle.transform.specs.Level.{square, coreAt, cores, level}
+use Rattle.lifting.specs.Wraps.{changes, value_wraps, line_wraps, wraps}
+use Rattle.lifting.specs.Program.{get, put, ◌then◌, each, line_by, run_by, value_by}
+use Rattle.figures.specs.Figures.{hadamard, odd, odd_odd, core, core_stages}
+use Rattle.transform.specs.Level.{square, core_at, cores, level}
 use Rattle.picture.specs.Table.{table}
-use Rattle.transform.specs.Grids.{grid, firstGrid, secondGrid}
-use Rattle.transform.specs.Transform.{quarterBy}
-use Rattle.transform.specs.Wraps.{quarterWrapsBy, inverseWrapsBy}
+use Rattle.transform.specs.Grids.{grid, first_grid, second_grid}
+use Rattle.transform.specs.Transform.{quarter_by}
+use Rattle.transform.specs.Wraps.{quarter_wraps_by, inverse_wraps_by}
 use Rattle.known_answers.specs.Tells.{TellsOfEachLevel}
 
-pub tells-of-each-level : TellsOfEachLevel
-unfolding wrap run_by lineBy valueBy get put ◌then◌ each hadamard odd oddOdd core coreStages square coreAt cores level table grid firstGrid secondGrid quarterBy changes valueWraps lineWraps wraps quarterWrapsBy inverseWrapsBy
-tells-of-each-level = (refl, refl, refl)
+pub tells_of_each_level : TellsOfEachLevel
+unfolding wrap run_by line_by value_by get put ◌then◌ each hadamard odd odd_odd core core_stages square core_at cores level table grid first_grid second_grid quarter_by changes value_wraps line_wraps wraps quarter_wraps_by inverse_wraps_by
+tells_of_each_level = (refl, refl, refl)

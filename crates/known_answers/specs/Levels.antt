@@ -2,8 +2,8 @@
 use Rattle.std.specs.Prelude.{◌≡◌, [], ◌∷◌, map, pos}
 use Rattle.picture.specs.Planes.{planes}
 use Rattle.step_sizes.specs.Steps.{step_of}
-use Rattle.quantise.specs.Quantise.{quantisedPlanes}
-use Rattle.restore.specs.Restore.{restoredPlanes}
+use Rattle.quantise.specs.Quantise.{quantised_planes}
+use Rattle.restore.specs.Restore.{restored_planes}
 use Rattle.known_answers.specs.Pictures.{minus}
 
 -- index 0 gives 1, and 1 to 31 give the index; 33 gives 34 and 255 gives 31 × 2^14
@@ -15,7 +15,7 @@ FirstSteps =
 -- indices 10, 20 and 40 give steps 10, 20 and 48
 abbrev pub ThreeBands : Type 0
 ThreeBands =
-    (quantisedPlanes (record { dc = 10; low = 20; high = 40 }) (planes (pos 104 ∷ []) (pos 104 ∷ minus 110 ∷ []) (pos 104 ∷ minus 24 ∷ pos 23 ∷ [])) ≡
+    (quantised_planes (record { dc = 10; low = 20; high = 40 }) (planes (pos 104 ∷ []) (pos 104 ∷ minus 110 ∷ []) (pos 104 ∷ minus 24 ∷ pos 23 ∷ [])) ≡
     planes (pos 10 ∷ []) (pos 5 ∷ minus 6 ∷ []) (pos 2 ∷ minus 1 ∷ pos 0 ∷ []))
-    × (restoredPlanes (record { dc = 10; low = 20; high = 40 }) (planes (pos 10 ∷ []) (pos 5 ∷ minus 6 ∷ []) (pos 2 ∷ minus 1 ∷ pos 0 ∷ [])) ≡
+    × (restored_planes (record { dc = 10; low = 20; high = 40 }) (planes (pos 10 ∷ []) (pos 5 ∷ minus 6 ∷ []) (pos 2 ∷ minus 1 ∷ pos 0 ∷ [])) ≡
     planes (pos 100 ∷ []) (pos 100 ∷ minus 120 ∷ []) (pos 96 ∷ minus 48 ∷ pos 0 ∷ []))

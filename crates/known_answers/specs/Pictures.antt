@@ -31,12 +31,12 @@ LowPassOrder =
 abbrev pub full : Planes
 full = planes (pos 1000 ∷ minus 2000 ∷ pos 3000 ∷ minus 4000 ∷ []) (squares 60) (table 960 (λ i. pos (i * i % 101)))
 
-abbrev pub firstSamples : List ℤ → List ℤ
-firstSamples samples = table 64 (λ b. at samples (b / 8 * 4 * 32 + b % 8 * 4))
+abbrev pub first_samples : List ℤ → List ℤ
+first_samples samples = table 64 (λ b. at samples (b / 8 * 4 * 32 + b % 8 * 4))
 
 abbrev pub BlockOrder : Type 0
 BlockOrder =
-    firstSamples (inverse 0 (of 2 2) full) ≡
+    first_samples (inverse 0 (of 2 2) full) ≡
     pos 224 ∷ pos 214 ∷ pos 243 ∷ pos 289 ∷ pos 443 ∷ minus 106 ∷ pos 139 ∷ pos 69 ∷
     pos 184 ∷ pos 280 ∷ pos 158 ∷ pos 242 ∷ minus 327 ∷ pos 147 ∷ minus 24 ∷ pos 84 ∷
     pos 279 ∷ pos 205 ∷ pos 274 ∷ pos 247 ∷ pos 137 ∷ pos 6 ∷ pos 48 ∷ pos 3 ∷
@@ -48,17 +48,17 @@ BlockOrder =
 
 -- ---- the quarter view of 2 x 1: mode 1 filters no level that it goes through, and mode 2 does
 
-abbrev pub viewIn : ℕ → List ℤ
-viewIn mode = quarter mode (of 2 1) (pos 1000 ∷ minus 2000 ∷ []) (squares 30)
+abbrev pub view_in : ℕ → List ℤ
+view_in mode = quarter mode (of 2 1) (pos 1000 ∷ minus 2000 ∷ []) (squares 30)
 
 abbrev pub QuarterViews : Type 0
 QuarterViews =
-    (viewIn 1 ≡
+    (view_in 1 ≡
     pos 420 ∷ pos 159 ∷ pos 292 ∷ pos 248 ∷ pos 1044 ∷ minus 1073 ∷ minus 207 ∷ minus 508 ∷
     minus 1 ∷ pos 358 ∷ pos 196 ∷ pos 255 ∷ minus 1601 ∷ minus 183 ∷ minus 773 ∷ minus 559 ∷
     pos 367 ∷ pos 208 ∷ pos 270 ∷ pos 251 ∷ minus 99 ∷ minus 706 ∷ minus 502 ∷ minus 546 ∷
     pos 216 ∷ pos 269 ∷ pos 247 ∷ pos 245 ∷ minus 640 ∷ minus 510 ∷ minus 558 ∷ minus 581 ∷ [])
-    × (viewIn 2 ≡
+    × (view_in 2 ≡
     pos 522 ∷ pos 149 ∷ minus 212 ∷ pos 168 ∷ pos 1392 ∷ minus 730 ∷ minus 298 ∷ minus 736 ∷
     pos 41 ∷ pos 417 ∷ pos 510 ∷ minus 122 ∷ minus 1502 ∷ minus 495 ∷ minus 809 ∷ minus 626 ∷
     pos 413 ∷ pos 233 ∷ pos 112 ∷ pos 35 ∷ pos 149 ∷ minus 639 ∷ minus 627 ∷ minus 677 ∷

@@ -15,19 +15,19 @@ abbrev pub above : ℕ → ℕ → ℕ → List ℤ
 above mode upper lower = inverse mode (of 1 2) (planes (pos upper ∷ pos lower ∷ []) (zeros 30) (zeros 480))
 
 -- n samples from column c of row 8 on, and from row r of column 8 on, in pictures of 32 and of 16 columns
-abbrev pub alongRow : List ℤ → ℕ → ℕ → List ℤ
-alongRow samples c n = table n (λ i. at samples (8 * 32 + (c + i)))
+abbrev pub along_row : List ℤ → ℕ → ℕ → List ℤ
+along_row samples c n = table n (λ i. at samples (8 * 32 + (c + i)))
 
-abbrev pub alongColumn : List ℤ → ℕ → ℕ → List ℤ
-alongColumn samples r n = table n (λ i. at samples (16 * (r + i) + 8))
+abbrev pub along_column : List ℤ → ℕ → ℕ → List ℤ
+along_column samples r n = table n (λ i. at samples (16 * (r + i) + 8))
 
 -- the left macroblock ends with column 15, the upper with row 15; the lower begins with row 16
 abbrev pub MacroblockReach : Type 0
 MacroblockReach =
-    (alongRow (side_by_side 1 4096 0) 16 4 ≡ pos 122 ∷ pos 26 ∷ pos 0 ∷ pos 0 ∷ [])
-    × (alongRow (side_by_side 2 4096 0) 24 4 ≡ pos 9 ∷ pos 1 ∷ pos 0 ∷ pos 0 ∷ [])
-    × (alongColumn (above 2 4096 0) 24 4 ≡ pos 9 ∷ pos 1 ∷ pos 0 ∷ pos 0 ∷ [])
-    × (alongColumn (above 2 0 4096) 4 4 ≡ pos 0 ∷ pos 0 ∷ pos 2 ∷ pos 10 ∷ [])
+    (along_row (side_by_side 1 4096 0) 16 4 ≡ pos 122 ∷ pos 26 ∷ pos 0 ∷ pos 0 ∷ [])
+    × (along_row (side_by_side 2 4096 0) 24 4 ≡ pos 9 ∷ pos 1 ∷ pos 0 ∷ pos 0 ∷ [])
+    × (along_column (above 2 4096 0) 24 4 ≡ pos 9 ∷ pos 1 ∷ pos 0 ∷ pos 0 ∷ [])
+    × (along_column (above 2 0 4096) 4 4 ≡ pos 0 ∷ pos 0 ∷ pos 2 ∷ pos 10 ∷ [])
 
 -- the first high-pass number of block 5, whose own rows and columns are 4 to 7: row 5 and column 5 of the picture, in mode 1
 abbrev pub fifth : List ℤ

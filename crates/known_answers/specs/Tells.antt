@@ -3,9 +3,9 @@ use Rattle.std.specs.Prelude.{ℕ, ◌≡◌, Bool, true, false, List, [], ◌�
 use Rattle.lifting.specs.Wraps.{wraps}
 use Rattle.picture.specs.Modes.{mode_of}
 use Rattle.picture.specs.Planes.{Planes, planes}
-use Rattle.transform.specs.Grids.{secondGrid}
-use Rattle.transform.specs.Transform.{levelTwo, quarter}
-use Rattle.transform.specs.Wraps.{inverseWraps, quarterWraps}
+use Rattle.transform.specs.Grids.{second_grid}
+use Rattle.transform.specs.Transform.{level_two, quarter}
+use Rattle.transform.specs.Wraps.{inverse_wraps, quarter_wraps}
 use Rattle.corollaries.specs.Sizes.{of}
 use Rattle.known_answers.specs.Pictures.{zeros}
 
@@ -16,9 +16,9 @@ lone dc high = planes (pos dc ∷ []) (zeros 15) (set (zeros 240) 75 (pos high))
 -- the quarter view tells of level one, and the inverse of both
 abbrev pub told : Planes → List Bool
 told s =
-    quarterWraps 0 (of 1 1) s.dc s.low
-    ∷ wraps (levelTwo (mode_of 0) (of 1 1)) (secondGrid 1 1 (quarter 0 (of 1 1) s.dc s.low) s.high)
-    ∷ inverseWraps 0 (of 1 1) s
+    quarter_wraps 0 (of 1 1) s.dc s.low
+    ∷ wraps (level_two (mode_of 0) (of 1 1)) (second_grid 1 1 (quarter 0 (of 1 1) s.dc s.low) s.high)
+    ∷ inverse_wraps 0 (of 1 1) s
     ∷ []
 
 abbrev pub TellsOfEachLevel : Type 0

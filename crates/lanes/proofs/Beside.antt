@@ -16,7 +16,7 @@ use Rattle.lifting.proofs.Between.{All, all_map}
 use Rattle.lifting.proofs.Locality.{agree_refl, get-same, put_keeps}
 use Rattle.figures.specs.Block.{four}
 use Rattle.transform.specs.Level.{strip, square}
-use Rattle.transform.proofs.Levels.{rising-places, square-places}
+use Rattle.transform.proofs.Levels.{rising_places, square-places}
 use Rattle.transform.proofs.Cells.{all-strip, all-square}
 use Rattle.lanes.specs.Lanes.{InLanes}
 
@@ -40,8 +40,8 @@ pieces_more piece part F n out x u inside room e long f h l k = by_cases (ℕ_di
 
 -- ---- squares
 
-square-in : (l : ℕ) → l < 4 → All (λ i. i % 16 / 4 ≡ l) (square 16 (4 * l))
-square-in l h =
+square_in_lem : (l : ℕ) → l < 4 → All (λ i. i % 16 / 4 ≡ l) (square 16 (4 * l))
+square_in_lem l h =
     all-square (λ i. i % 16 / 4 ≡ l) 16 (4 * l) (row (4 * l) (omega arith)) (row (4 * l + 16) (omega arith)) (row (4 * l + 16 + 16) (omega arith)) (row (4 * l + 16 + 16 + 16) (omega arith))
   where
     row : (i : ℕ) → i % 16 ≡ 4 * l → All (λ k. k % 16 / 4 ≡ l) (strip 1 i)
@@ -50,24 +50,24 @@ square-in l h =
 abbrev pub Beside : (ℕ → List ℤ) → ℕ → List ℤ → Type 0
 Beside = Pieces (λ l. square 16 (4 * l))
 
-pub beside-more : (F : ℕ → List ℤ) (n : ℕ) (out x u : List ℤ) → n < 4 → length out ≡ 64 → x ≡ F n → length (F n) ≡ 16 → u ≡ put (square 16 (4 * n)) x out → Beside F n out → Beside F (n + 1) u
+pub beside_more : (F : ℕ → List ℤ) (n : ℕ) (out x u : List ℤ) → n < 4 → length out ≡ 64 → x ≡ F n → length (F n) ≡ 16 → u ≡ put (square 16 (4 * n)) x out → Beside F n out → Beside F (n + 1) u
 unfolding square
-beside-more F n out x u few long e sixteen f h =
-    pieces_more (λ l. square 16 (4 * l)) (λ i. i % 16 / 4) F n out x u (λ l k. square-in l (omega arith)) (square-places 16 (4 * n) (length out) (omega arith) (omega arith)) e (ap length e ∙ sixteen) f h
+beside_more F n out x u few long e sixteen f h =
+    pieces_more (λ l. square 16 (4 * l)) (λ i. i % 16 / 4) F n out x u (λ l k. square_in_lem l (omega arith)) (square-places 16 (4 * n) (length out) (omega arith) (omega arith)) e (ap length e ∙ sixteen) f h
 
 -- ---- lanes of a row
 
 lane_in : (l : ℕ) → l < 4 → All (λ i. 3 - i / 4 ≡ l) (strip 1 (12 - 4 * l))
 lane_in l h = all-strip (λ i. 3 - i / 4 ≡ l) 1 (12 - 4 * l) (omega arith) (omega arith) (omega arith) (omega arith)
 
-lane-more : (s : List ℤ) (step from n i j : ℕ) (row x u : List ℤ) → n < 4 → length row ≡ 16 → i ≡ 12 - 4 * n → j ≡ from + step * n → four x ≡ get (strip 1 j) s → u ≡ put (strip 1 i) (four x) row
+lane_more : (s : List ℤ) (step from n i j : ℕ) (row x u : List ℤ) → n < 4 → length row ≡ 16 → i ≡ 12 - 4 * n → j ≡ from + step * n → four x ≡ get (strip 1 j) s → u ≡ put (strip 1 i) (four x) row
     → Pieces (λ l. strip 1 (12 - 4 * l)) (λ l. get (strip 1 (from + step * l)) s) n row → Pieces (λ l. strip 1 (12 - 4 * l)) (λ l. get (strip 1 (from + step * l)) s) (n + 1) u
-lane-more s step from n i j row x u few long p q read stored h =
+lane_more s step from n i j row x u few long p q read stored h =
     pieces_more (λ l. strip 1 (12 - 4 * l)) (λ k. 3 - k / 4) (λ l. get (strip 1 (from + step * l)) s) n row (four x) u (λ l k. lane_in l (omega arith)) room
     (read ∙ ap (λ (k : ℕ). get (strip 1 k) s) q) refl (stored ∙ ap (λ (k : ℕ). put (strip 1 k) (four x) row) p) h
   where
     room : T (places (length row) (strip 1 (12 - 4 * n)))
-    room = rising-places (12 - 4 * n) (length row) (strip 1 (12 - 4 * n)) (omega arith, (omega arith, (omega arith, (omega arith, omega arith))))
+    room = rising_places (12 - 4 * n) (length row) (strip 1 (12 - 4 * n)) (omega arith, (omega arith, (omega arith, (omega arith, omega arith))))
 
 pub held : (s : List ℤ) (step from : ℕ) (v0 v1 v2 v3 v4 p q r t : List ℤ) → length v0 ≡ 16 → four p ≡ get (strip 1 from) s → v1 ≡ put (strip 1 12) (four p) v0
     → four q ≡ get (strip 1 (from + step)) s → v2 ≡ put (strip 1 8) (four q) v1 → four r ≡ get (strip 1 (from + step + step)) s → v3 ≡ put (strip 1 4) (four r) v2
@@ -85,7 +85,7 @@ held s step from v0 v1 v2 v3 v4 p q r t long a b c d e f g h = record { len = ap
 
     all : Pieces (λ l. strip 1 (12 - 4 * l)) (λ l. get (strip 1 (from + step * l)) s) 4 v4
     all =
-        lane-more s step from 3 0 _ v3 t v4 (omega arith) long3 refl (omega arith) g h
-        (lane-more s step from 2 4 _ v2 r v3 (omega arith) long2 refl (omega arith) e f
-        (lane-more s step from 1 8 _ v1 q v2 (omega arith) long1 refl (omega arith) c d
-        (lane-more s step from 0 12 _ v0 p v1 (omega arith) long refl (omega arith) a b (λ l k. absurd (omega arith)))))
+        lane_more s step from 3 0 _ v3 t v4 (omega arith) long3 refl (omega arith) g h
+        (lane_more s step from 2 4 _ v2 r v3 (omega arith) long2 refl (omega arith) e f
+        (lane_more s step from 1 8 _ v1 q v2 (omega arith) long1 refl (omega arith) c d
+        (lane_more s step from 0 12 _ v0 p v1 (omega arith) long refl (omega arith) a b (λ l k. absurd (omega arith)))))

@@ -15,8 +15,8 @@ use Rattle.figures.specs.Block.{four, flat}
 use Rattle.transform.specs.Level.{strip, square}
 use Rattle.picture.specs.Table.{table}
 use Rattle.picture.proofs.Table.{at_table, table_same}
-use Rattle.transform.proofs.Squares.{sixteen, get-sixteen}
-use Rattle.transform.proofs.Levels.{rising-places}
+use Rattle.transform.proofs.Squares.{sixteen, get_sixteen}
+use Rattle.transform.proofs.Levels.{rising_places}
 use Rattle.transform.proofs.Cells.{all-strip}
 use Rattle.grid.proofs.Rows.{row_inside}
 use Rattle.lanes.specs.Lanes.{lane_of, InLanes, Moved, Placed}
@@ -44,7 +44,7 @@ module _ (s v x : List ℤ) {u : List ℤ} (step i j : ℕ) (read : four x ≡ g
       there = omega arith
 
       room : T (places (length v) (strip 1 i))
-      room = rising-places i (length v) (strip 1 i) (omega arith, (omega arith, (omega arith, (omega arith, omega arith))))
+      room = rising_places i (length v) (strip 1 i) (omega arith, (omega arith, (omega arith, (omega arith, omega arith))))
 
   pub four-rest : (k : ℕ) → ¬ ((i ≤ k) × (k < i + 4)) → at u k ≡ at v k
   four-rest k n =
@@ -79,20 +79,20 @@ moved_more {s} {old} {v} {u} y from n to i j p q room read stored r = record {
 
 -- ---- squares, number by number
 
-four-more : {a b c d a' b' c' d' : ℕ} {l l' : List ℕ} → a ≡ a' → b ≡ b' → c ≡ c' → d ≡ d' → l ≡ l' → a ∷ b ∷ c ∷ d ∷ l ≡ a' ∷ b' ∷ c' ∷ d' ∷ l'
-four-more a b c d e = rw (a, b, c, d, e)
+four_more : {a b c d a' b' c' d' : ℕ} {l l' : List ℕ} → a ≡ a' → b ≡ b' → c ≡ c' → d ≡ d' → l ≡ l' → a ∷ b ∷ c ∷ d ∷ l ≡ a' ∷ b' ∷ c' ∷ d' ∷ l'
+four_more a b c d e = rw (a, b, c, d, e)
 
 -- the sixteen places of a square
 pub square-is : (w i : ℕ) → square w i ≡ map (λ k. i + k / 4 * w + k % 4) sixteen
 unfolding square
 square-is w i =
-    four-more (omega arith) (omega arith) (omega arith) (omega arith)
-    (four-more (omega arith) (omega arith) (omega arith) (omega arith)
-    (four-more (omega arith) (omega arith) (omega arith) (omega arith)
-    (four-more (omega arith) (omega arith) (omega arith) (omega arith) refl)))
+    four_more (omega arith) (omega arith) (omega arith) (omega arith)
+    (four_more (omega arith) (omega arith) (omega arith) (omega arith)
+    (four_more (omega arith) (omega arith) (omega arith) (omega arith)
+    (four_more (omega arith) (omega arith) (omega arith) (omega arith) refl)))
 
 pub square-numbers : (w i : ℕ) (v : List ℤ) → get (square w i) v ≡ table 16 (λ k. at v (i + k / 4 * w + k % 4))
-square-numbers w i v = rw (square-is w i) (get-sixteen (λ k. i + k / 4 * w + k % 4) v)
+square-numbers w i v = rw (square-is w i) (get_sixteen (λ k. i + k / 4 * w + k % 4) v)
 
 -- number k of a square
 pub square-at : (w i : ℕ) (v : List ℤ) (k : ℕ) → k < 16 → at (get (square w i) v) k ≡ at v (i + k / 4 * w + k % 4)
@@ -109,10 +109,10 @@ unfolding flat
 four-rows p q r s a b c d = joined a b c d
 
 -- rows of four squares side by side, the first at place i of a grid of w columns
-pub lanes-held : (s a b c d : List ℤ) (w i : ℕ) → InLanes s 4 i a → InLanes s 4 (i + w) b → InLanes s 4 (i + w + w) c → InLanes s 4 (i + w + w + w) d
+pub lanes_held : (s a b c d : List ℤ) (w i : ℕ) → InLanes s 4 i a → InLanes s 4 (i + w) b → InLanes s 4 (i + w + w) c → InLanes s 4 (i + w + w + w) d
     → (l : ℕ) → l < 4 → lane_of a b c d l ≡ get (square w (i + 4 * l)) s
 unfolding get square
-lanes-held s a b c d w i p q r t l h = joined (p.own l h) (q.own l h ∙ from (omega arith)) (r.own l h ∙ from (omega arith)) (t.own l h ∙ from (omega arith))
+lanes_held s a b c d w i p q r t l h = joined (p.own l h) (q.own l h ∙ from (omega arith)) (r.own l h ∙ from (omega arith)) (t.own l h ∙ from (omega arith))
   where
     from : {j k : ℕ} → j ≡ k → get (strip 1 j) s ≡ get (strip 1 k) s
     from e = rw e
@@ -125,8 +125,8 @@ record RowsOut (s old : List ℤ) (w first m : ℕ) (v : List ℤ) : Type 0 wher
   pub own : (r x : ℕ) → r < m → x < 16 → at v (first + r * w + x) ≡ at s (16 * r + x)
   pub rest : (i : ℕ) → ((r x : ℕ) → r < m → x < 16 → ¬ (i ≡ first + r * w + x)) → at v i ≡ at old i
 
-rows-out-more : (s old v u : List ℤ) (w first m from to : ℕ) → 16 ≤ w → from ≡ 16 * m → to ≡ first + m * w → RowsOut s old w first m v → Moved s from 16 v to u → RowsOut s old w first (m + 1) u
-rows-out-more s old v u w first m from to wide e f rows r = record {
+rows_out_more : (s old v u : List ℤ) (w first m from to : ℕ) → 16 ≤ w → from ≡ 16 * m → to ≡ first + m * w → RowsOut s old w first m v → Moved s from 16 v to u → RowsOut s old w first (m + 1) u
+rows_out_more s old v u w first m from to wide e f rows r = record {
   len = r.len ∙ rows.len;
   own = λ n x h l. own n x h l (ℕ_discrete n m);
   rest = λ i h. r.rest i (λ z. h m (i - to) (omega arith) (omega arith) (omega arith)) ∙ rows.rest i (λ n x l. h n x (omega arith));
@@ -155,10 +155,10 @@ all_placed s v0 v1 v2 v3 v4 w first wide a b c d = record {
 
     rows : RowsOut s v0 w first 4 v4
     rows =
-        rows-out-more s v0 v3 v4 w first 3 _ _ wide refl (omega arith)
-        (rows-out-more s v0 v2 v3 w first 2 _ _ wide refl (omega arith)
-        (rows-out-more s v0 v1 v2 w first 1 _ _ wide refl (omega arith)
-        (rows-out-more s v0 v0 v1 w first 0 _ _ wide refl (omega arith) none a) b) c) d
+        rows_out_more s v0 v3 v4 w first 3 _ _ wide refl (omega arith)
+        (rows_out_more s v0 v2 v3 w first 2 _ _ wide refl (omega arith)
+        (rows_out_more s v0 v1 v2 w first 1 _ _ wide refl (omega arith)
+        (rows_out_more s v0 v0 v1 w first 0 _ _ wide refl (omega arith) none a) b) c) d
 
     own : (l k : ℕ) → l < 4 → k < 16 → at v4 (first + 4 * l + k / 4 * w + k % 4) ≡ at s (4 * l + k / 4 * 16 + k % 4)
     own l k h m =

@@ -1,17 +1,17 @@
 // The C interface: one exported function for each operation, with the operation's own promises.
 ghost use Rattle.std.specs.Prelude.{◌≡◌, false};
 ghost use Rattle.picture.specs.Planes.{planes};
-ghost use Rattle.picture.specs.Numbers.{settled, inverseNumber, forwardNumber, quarterNumber};
-ghost use Rattle.transform.specs.Transform.{inverse as samplesOf, forward as planesOf, quarter};
-ghost use Rattle.transform.specs.Wraps.{inverseWraps, forwardWraps, quarterWraps};
-ghost use Rattle.plane_file.specs.Numbers.{saveNumber};
-ghost use Rattle.plane_file.specs.Calls.{headerAnswer, loadAnswer, loaded, saved};
-ghost use Rattle.forecast.specs.Forecast.{forecastAnswer};
-ghost use Rattle.step_sizes.specs.Steps.{stepAnswer};
-ghost use Rattle.quantise.specs.Quantise.{quantisedPlanes, quantiseNumber};
-ghost use Rattle.restore.specs.Restore.{restoredPlanes, restoreNumber};
-ghost use Rattle.tries.specs.Tries.{triedPlanes, triedSamples, passes};
-ghost use Rattle.find_step.specs.FindStep.{IndexBeside, findNumber};
+ghost use Rattle.picture.specs.Numbers.{settled, inverse_number, forward_number, quarter_number};
+ghost use Rattle.transform.specs.Transform.{inverse as samples_of, forward as planes_of, quarter};
+ghost use Rattle.transform.specs.Wraps.{inverse_wraps, forward_wraps, quarter_wraps};
+ghost use Rattle.plane_file.specs.Numbers.{save_number};
+ghost use Rattle.plane_file.specs.Calls.{header_answer, load_answer, loaded, saved};
+ghost use Rattle.forecast.specs.Forecast.{forecast_answer};
+ghost use Rattle.step_sizes.specs.Steps.{step_answer};
+ghost use Rattle.quantise.specs.Quantise.{quantised_planes, quantise_number};
+ghost use Rattle.restore.specs.Restore.{restored_planes, restore_number};
+ghost use Rattle.tries.specs.Tries.{tried_planes, tried_samples, passes};
+ghost use Rattle.find_step.specs.FindStep.{IndexBeside, find_number};
 
 use bands::steps::Steps;
 use find_step::{Found, find_step};
@@ -36,10 +36,10 @@ pub extern "C" fn lapped_inverse(
     high: &[i32],
     samples: &mut [i32],
 ) -> Answer
-    ensures number_value { result.number ≡ inverseNumber mode size (planes dc.now low.now high.now) samples.old }
-    ensures wrapped_value { result.wrapped ≡ settled result.number (inverseWraps mode size (planes dc.now low.now high.now)) false }
+    ensures number_value { result.number ≡ inverse_number mode size (planes dc.now low.now high.now) samples.old }
+    ensures wrapped_value { result.wrapped ≡ settled result.number (inverse_wraps mode size (planes dc.now low.now high.now)) false }
     ensures samples_after { samples.new ≡
-        settled result.number (samplesOf mode size (planes dc.now low.now high.now)) samples.old }
+        settled result.number (samples_of mode size (planes dc.now low.now high.now)) samples.old }
 {
     inverse(mode, size, dc, low, high, samples)
 }
@@ -52,8 +52,8 @@ pub extern "C" fn lapped_quarter(
     low: &[i32],
     view: &mut [i32],
 ) -> Answer
-    ensures number_value { result.number ≡ quarterNumber mode size dc.now low.now view.old }
-    ensures wrapped_value { result.wrapped ≡ settled result.number (quarterWraps mode size dc.now low.now) false }
+    ensures number_value { result.number ≡ quarter_number mode size dc.now low.now view.old }
+    ensures wrapped_value { result.wrapped ≡ settled result.number (quarter_wraps mode size dc.now low.now) false }
     ensures view_after { view.new ≡ settled result.number (quarter mode size dc.now low.now) view.old }
 {
     quarter_view(mode, size, dc, low, view)
@@ -68,24 +68,24 @@ pub extern "C" fn lapped_forward(
     low: &mut [i32],
     high: &mut [i32],
 ) -> Answer
-    ensures number_value { result.number ≡ forwardNumber mode size samples.now (planes dc.old low.old high.old) }
-    ensures wrapped_value { result.wrapped ≡ settled result.number (forwardWraps mode size samples.now) false }
+    ensures number_value { result.number ≡ forward_number mode size samples.now (planes dc.old low.old high.old) }
+    ensures wrapped_value { result.wrapped ≡ settled result.number (forward_wraps mode size samples.now) false }
     ensures high_after { planes dc.new low.new high.new ≡
-        settled result.number (planesOf mode size samples.now) (planes dc.old low.old high.old) }
+        settled result.number (planes_of mode size samples.now) (planes dc.old low.old high.old) }
 {
     forward(mode, size, samples, dc, low, high)
 }
 
 #[unsafe(no_mangle)]
 pub extern "C" fn lapped_forecast(mode: u32, size: Size) -> Work
-    ensures { result ≡ forecastAnswer mode size }
+    ensures { result ≡ forecast_answer mode size }
 {
     forecast(mode, size)
 }
 
 #[unsafe(no_mangle)]
 pub extern "C" fn lapped_read_header(bytes: &[u8]) -> Header
-    ensures { result ≡ headerAnswer bytes.now }
+    ensures { result ≡ header_answer bytes.now }
 {
     read_header(bytes)
 }
@@ -97,7 +97,7 @@ pub extern "C" fn lapped_load(
     low: &mut [i32],
     high: &mut [i32],
 ) -> Header
-    ensures value { result ≡ loadAnswer bytes.now (planes dc.old low.old high.old) }
+    ensures value { result ≡ load_answer bytes.now (planes dc.old low.old high.old) }
     ensures high_after { planes dc.new low.new high.new ≡
         loaded bytes.now (planes dc.old low.old high.old) }
 {
@@ -113,7 +113,7 @@ pub extern "C" fn lapped_save(
     high: &[i32],
     bytes: &mut [u8],
 ) -> u32
-    ensures value { result ≡ saveNumber mode size (planes dc.now low.now high.now) bytes.old }
+    ensures value { result ≡ save_number mode size (planes dc.now low.now high.now) bytes.old }
     ensures bytes_after { bytes.new ≡ saved mode size (planes dc.now low.now high.now) bytes.old }
 {
     save(mode, size, dc, low, high, bytes)
@@ -121,7 +121,7 @@ pub extern "C" fn lapped_save(
 
 #[unsafe(no_mangle)]
 pub extern "C" fn lapped_step(index: u32) -> u32
-    ensures { result ≡ stepAnswer index }
+    ensures { result ≡ step_answer index }
 {
     step_or_zero(index)
 }
@@ -138,10 +138,10 @@ pub extern "C" fn lapped_quantise(
     low_levels: &mut [i32],
     high_levels: &mut [i32],
 ) -> u32
-    ensures value { result ≡ quantiseNumber mode size steps (planes dc.now low.now high.now)
+    ensures value { result ≡ quantise_number mode size steps (planes dc.now low.now high.now)
         (planes dc_levels.old low_levels.old high_levels.old) }
     ensures high_levels_after { planes dc_levels.new low_levels.new high_levels.new ≡
-        settled result (quantisedPlanes steps (planes dc.now low.now high.now))
+        settled result (quantised_planes steps (planes dc.now low.now high.now))
         (planes dc_levels.old low_levels.old high_levels.old) }
 {
     quantise(
@@ -169,10 +169,10 @@ pub extern "C" fn lapped_restore(
     low: &mut [i32],
     high: &mut [i32],
 ) -> u32
-    ensures value { result ≡ restoreNumber mode size steps (planes dc_levels.now low_levels.now high_levels.now)
+    ensures value { result ≡ restore_number mode size steps (planes dc_levels.now low_levels.now high_levels.now)
         (planes dc.old low.old high.old) }
     ensures high_after { planes dc.new low.new high.new ≡
-        settled result (restoredPlanes steps (planes dc_levels.now low_levels.now high_levels.now))
+        settled result (restored_planes steps (planes dc_levels.now low_levels.now high_levels.now))
         (planes dc.old low.old high.old) }
 {
     restore(
@@ -199,11 +199,11 @@ pub extern "C" fn lapped_find_step(
     high: &mut [i32],
     second: &mut [i32],
 ) -> Found
-    ensures number_value { result.number ≡ findNumber mode size samples.now second.old (planes dc.old low.old high.old) }
+    ensures number_value { result.number ≡ find_number mode size samples.now second.old (planes dc.old low.old high.old) }
     ensures index_beside { IndexBeside result.number (passes mode size samples.now tolerance) result.index }
     ensures high_after { planes dc.new low.new high.new ≡
-        settled result.number (triedPlanes mode size samples.now result.index) (planes dc.old low.old high.old) }
-    ensures second_after { second.new ≡ settled result.number (triedSamples mode size samples.now result.index) second.old }
+        settled result.number (tried_planes mode size samples.now result.index) (planes dc.old low.old high.old) }
+    ensures second_after { second.new ≡ settled result.number (tried_samples mode size samples.now result.index) second.old }
 {
     find_step(mode, size, tolerance, samples, dc, low, high, second)
 }

@@ -16,17 +16,17 @@ use Rattle.lifting.proofs.Bits.{back, mag-add, wide}
 
 -- ---- a sum as 32 bits without a sign: 2^32 more, where it is below zero, is its remainder
 
-under-cond : (n : ℕ) (t : Bool) → ltb 4294967296 (suc n) ≡ t → n < 4294967296 → cond t (negsuc (suc n - 4294967297)) (pos (4294967296 - suc n)) ≡ pos (low32 (negsuc n))
-under-cond n true e h = absurd (omega (arith, ltb-true 4294967296 (suc n) e))
-under-cond n false e h = ap pos (omega arith)
+under_cond : (n : ℕ) (t : Bool) → ltb 4294967296 (suc n) ≡ t → n < 4294967296 → cond t (negsuc (suc n - 4294967297)) (pos (4294967296 - suc n)) ≡ pos (low32 (negsuc n))
+under_cond n true e h = absurd (omega (arith, ltb-true 4294967296 (suc n) e))
+under_cond n false e h = ap pos (omega arith)
 
 under : (s : ℤ) → mag s < 4294967296 → lt_z s (pos 0) ≡ true → s +ℤ pos 4294967296 ≡ pos (low32 s)
 under (pos n) h e = absurd (omega (arith, ltb-true n 0 e))
-under (negsuc n) h e = under-cond n (ltb 4294967296 (suc n)) refl h
+under (negsuc n) h e = under_cond n (ltb 4294967296 (suc n)) refl h
 
-not-under : (s : ℤ) → mag s < 4294967296 → lt_z s (pos 0) ≡ false → s ≡ pos (low32 s)
-not-under (pos n) h e = ap pos (omega arith)
-not-under (negsuc n) h e = absurd (subst (λ (b : Bool). T b) e tt)
+not_under : (s : ℤ) → mag s < 4294967296 → lt_z s (pos 0) ≡ false → s ≡ pos (low32 s)
+not_under (pos n) h e = ap pos (omega arith)
+not_under (negsuc n) h e = absurd (subst (λ (b : Bool). T b) e tt)
 
 low_fits : (s : ℤ) → low32 s < 4294967296
 low_fits (pos n) = omega arith
@@ -53,10 +53,10 @@ module _ {x : ℤ} (f : SFits w32 x) (k : ℕ) (h : k ≤ 1073741824) where
   below e = (rw sum_is (under (x +ℤ pos k) near (rw sum_is at e)), low_fits (x +ℤ pos k))
 
   pub not-below : lt_z (to_z w64 (of_z w64 sum)) (pos 0) ≡ false → (to_z w64 (of_z w64 sum) ≡ pos (low32 (x +ℤ pos k))) × (low32 (x +ℤ pos k) < 4294967296)
-  not-below e = (sum_is ∙ not-under (x +ℤ pos k) near (rw sum_is at e), low_fits (x +ℤ pos k))
+  not-below e = (sum_is ∙ not_under (x +ℤ pos k) near (rw sum_is at e), low_fits (x +ℤ pos k))
 
-pub in-64 : {n : ℕ} → n < 4294967296 → SFits w64 (pos n)
-in-64 h = record { sfits = omega arith }
+pub in_64 : {n : ℕ} → n < 4294967296 → SFits w64 (pos n)
+in_64 h = record { sfits = omega arith }
 
 -- ---- what a mark says of its number
 

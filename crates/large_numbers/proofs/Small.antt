@@ -26,14 +26,14 @@ pub small-none : (v : List ℤ) {a b : ℕ} → b ≤ a → Small v a b
 small-none v h i l r = absurd (omega arith)
 
 -- places a to b, and then c to d, with none between them: all up to e
-pub small-up-to : (v : List ℤ) {a b c d e : ℕ} → c ≤ b → e ≤ d → Small v a b → Small v c d → Small v a e
-small-up-to v {b = b} h k p q i l r = by_cases (dec_lt i b) (λ o. p i l o) (λ o. q i (omega (arith, o)) (omega arith))
+pub small_up_to : (v : List ℤ) {a b c d e : ℕ} → c ≤ b → e ≤ d → Small v a b → Small v c d → Small v a e
+small_up_to v {b = b} h k p q i l r = by_cases (dec_lt i b) (λ o. p i l o) (λ o. q i (omega (arith, o)) (omega arith))
 
-pub small-join : (v : List ℤ) {a b c d : ℕ} → c ≤ b → Small v a b → Small v c d → Small v a d
-small-join v h = small-up-to v h (omega arith)
+pub small_join : (v : List ℤ) {a b c d : ℕ} → c ≤ b → Small v a b → Small v c d → Small v a d
+small_join v h = small_up_to v h (omega arith)
 
-pub small-part : (v : List ℤ) {a b c d : ℕ} → Small v a b → a ≤ c → d ≤ b → Small v c d
-small-part v p h k i l r = p i (omega arith) (omega arith)
+pub small_part : (v : List ℤ) {a b c d : ℕ} → Small v a b → a ≤ c → d ≤ b → Small v c d
+small_part v p h k i l r = p i (omega arith) (omega arith)
 
 -- one place more, whatever is said of each
 pub one_more : {a b : ℕ} (k : ℕ) (P : ℕ → Type 0) → ((i : ℕ) → a ≤ i → i < k → P i) → P k → b ≤ k + 1 → (i : ℕ) → a ≤ i → i < b → P i
@@ -43,23 +43,23 @@ one_more k P f p h i l r = by_cases (dec_lt i k) (λ o. f i l o) (λ o. let e : 
 
 module _ (v : List ℤ) (w a : ℕ) where
   pub one-row : (n : ℕ) → Small v a (a + n) → SmallRows v w a 1 n
-  one-row n p i l = let first : 0 ≡ i = omega arith in subst (λ (x : ℕ). Small v (a + x * w) (a + x * w + n)) first (small-part v p (omega arith) (omega arith))
+  one-row n p i l = let first : 0 ≡ i = omega arith in subst (λ (x : ℕ). Small v (a + x * w) (a + x * w + n)) first (small_part v p (omega arith) (omega arith))
 
   -- k rows, and then those below them
   pub rows-below : (k j n : ℕ) {b : ℕ} → b ≡ a + k * w → SmallRows v w a k n → SmallRows v w b j n → SmallRows v w a (k + j) n
   rows-below k j n {b} e p q i l = by_cases (dec_lt i k) (λ o. p i o) (λ o. below (i - k) (omega (arith, o)))
     where
       below : (d : ℕ) → k + d ≡ i → Small v (a + i * w) (a + i * w + n)
-      below d f = subst (λ (x : ℕ). Small v (a + x * w) (a + x * w + n)) f (small-part v (q d (omega arith)) (omega arith) (omega arith))
+      below d f = subst (λ (x : ℕ). Small v (a + x * w) (a + x * w + n)) f (small_part v (q d (omega arith)) (omega arith) (omega arith))
 
   -- n numbers of each, and then those beside them
   pub rows-beside : (k n m : ℕ) {b : ℕ} → b ≡ a + n → SmallRows v w a k n → SmallRows v w b k m → SmallRows v w a k (n + m)
-  rows-beside k n m e p q i l = small-up-to v (omega arith) (omega arith) (p i l) (q i l)
+  rows-beside k n m e p q i l = small_up_to v (omega arith) (omega arith) (p i l) (q i l)
 
   -- all numbers of each: the rows follow one another
-  pub whole-rows : (k : ℕ) → SmallRows v w a k w → Small v a (a + k * w)
-  whole-rows zero p = small-none v (omega arith)
-  whole-rows (suc k) p = small-up-to v (omega arith) (omega arith) (whole-rows k (λ i l. p i (omega arith))) (p k (omega arith))
+  pub whole_rows : (k : ℕ) → SmallRows v w a k w → Small v a (a + k * w)
+  whole_rows zero p = small-none v (omega arith)
+  whole_rows (suc k) p = small_up_to v (omega arith) (omega arith) (whole_rows k (λ i l. p i (omega arith))) (p k (omega arith))
 
 -- ---- the whole row
 

@@ -9,8 +9,8 @@ use native.Mathlib.Decide.{ℕ_discrete, dec_le, dec_lt}
 use lib.ListN.{length, set, drop, length-set}
 use lib.Seq.{set_out, get_or-set_same, get_or-set_other}
 use lib.IntN.{ℤ, pos}
-use Rattle.lifting.specs.Program.{Program, end, apply, Operator, at, get, put, run, undo, ◌then◌, each, run_by, undoBy}
-use Rattle.lifting.proofs.Compose.{run-then, undo-then}
+use Rattle.lifting.specs.Program.{Program, end, apply, Operator, at, get, put, run, undo, ◌then◌, each, run_by, undo_by}
+use Rattle.lifting.proofs.Compose.{run_then, undo_then}
 
 -- P at all places of a list
 abbrev pub All : (ℕ → Type 0) → List ℕ → Type 0
@@ -63,62 +63,62 @@ pub record Like (A : List ℤ → List ℤ → Type 0) (a b : Program) : Type 0 
 -- ---- programs one after another
 
 module _ (A : List ℤ → List ℤ → Type 0) where
-  pub like-end : Like A end end
-  unfolding run_by undoBy
-  like-end = record { runs = λ v w h. h; undoes = λ v w h. h }
+  pub like_end : Like A end end
+  unfolding run_by undo_by
+  like_end = record { runs = λ v w h. h; undoes = λ v w h. h }
 
-  pub like-then : (a b c d : Program) → Like A a c → Like A b d → Like A (a then b) (c then d)
-  like-then a b c d f g = record {
-    runs = λ v w h. rw (run-then a b v, run-then c d w) (g.runs _ _ (f.runs v w h));
-    undoes = λ v w h. rw (undo-then a b v, undo-then c d w) (f.undoes _ _ (g.undoes v w h));
+  pub like_then : (a b c d : Program) → Like A a c → Like A b d → Like A (a then b) (c then d)
+  like_then a b c d f g = record {
+    runs = λ v w h. rw (run_then a b v, run_then c d w) (g.runs _ _ (f.runs v w h));
+    undoes = λ v w h. rw (undo_then a b v, undo_then c d w) (f.undoes _ _ (g.undoes v w h));
   }
 
-  pub both-free : (a b : Program) → Like A a end → Like A end b → Like A a b
-  unfolding run_by undoBy
-  both-free a b f g = record { runs = λ v w h. g.runs _ _ (f.runs v w h); undoes = λ v w h. g.undoes _ _ (f.undoes v w h) }
+  pub both_free : (a b : Program) → Like A a end → Like A end b → Like A a b
+  unfolding run_by undo_by
+  both_free a b f g = record { runs = λ v w h. g.runs _ _ (f.runs v w h); undoes = λ v w h. g.undoes _ _ (f.undoes v w h) }
 
   pub none_left : (n : ℕ) (f : ℕ → Program) → ((i : ℕ) → i < n → Like A (f i) end) → Like A (each n f) end
   unfolding each ◌then◌
-  none_left zero f h = like-end
-  none_left (suc n) f h = like-then (each n f) (f n) end end (none_left n f (λ i l. h i (omega arith))) (h n (omega arith))
+  none_left zero f h = like_end
+  none_left (suc n) f h = like_then (each n f) (f n) end end (none_left n f (λ i l. h i (omega arith))) (h n (omega arith))
 
   pub none_right : (n : ℕ) (f : ℕ → Program) → ((i : ℕ) → i < n → Like A end (f i)) → Like A end (each n f)
   unfolding each ◌then◌
-  none_right zero f h = like-end
-  none_right (suc n) f h = like-then end end (each n f) (f n) (none_right n f (λ i l. h i (omega arith))) (h n (omega arith))
+  none_right zero f h = like_end
+  none_right (suc n) f h = like_then end end (each n f) (f n) (none_right n f (λ i l. h i (omega arith))) (h n (omega arith))
 
-  pub like-all : (n : ℕ) (f g : ℕ → Program) → ((i : ℕ) → i < n → Like A (f i) (g i)) → Like A (each n f) (each n g)
+  pub like_all : (n : ℕ) (f g : ℕ → Program) → ((i : ℕ) → i < n → Like A (f i) (g i)) → Like A (each n f) (each n g)
   unfolding each
-  like-all zero f g h = like-end
-  like-all (suc n) f g h = like-then (each n f) (f n) (each n g) (g n) (like-all n f g (λ i l. h i (omega arith))) (h n (omega arith))
+  like_all zero f g h = like_end
+  like_all (suc n) f g h = like_then (each n f) (f n) (each n g) (g n) (like_all n f g (λ i l. h i (omega arith))) (h n (omega arith))
 
   -- uses on the right alone, after those that are matched
-  more-right : (a b c : Program) → Like A a b → Like A end c → Like A a (b then c)
-  unfolding run_by undoBy
-  more-right a b c f g = record {
-    runs = λ v w h. rw (run-then b c w) (g.runs _ _ (f.runs v w h));
-    undoes = λ v w h. rw (undo-then b c w) (f.undoes _ _ (g.undoes v w h));
+  more_right : (a b c : Program) → Like A a b → Like A end c → Like A a (b then c)
+  unfolding run_by undo_by
+  more_right a b c f g = record {
+    runs = λ v w h. rw (run_then b c w) (g.runs _ _ (f.runs v w h));
+    undoes = λ v w h. rw (undo_then b c w) (f.undoes _ _ (g.undoes v w h));
   }
 
   -- n uses on the left, matched by the uses k, .., k + n - 1 of N on the right
-  pub like-each : (k n N : ℕ) (f g : ℕ → Program) → k + n ≤ N → ((i : ℕ) → i < n → Like A (f i) (g (k + i))) → ((i : ℕ) → i < N → (k ≤ i → i < k + n → ⊥) → Like A end (g i))
+  pub like_each : (k n N : ℕ) (f g : ℕ → Program) → k + n ≤ N → ((i : ℕ) → i < n → Like A (f i) (g (k + i))) → ((i : ℕ) → i < N → (k ≤ i → i < k + n → ⊥) → Like A end (g i))
       → Like A (each n f) (each N g)
   unfolding each
-  like-each k zero N f g le match others = none_right N g (λ i l. others i l (λ h m. omega arith))
-  like-each k (suc n) zero f g le match others = absurd (omega arith)
-  like-each k (suc n) (suc N) f g le match others =
+  like_each k zero N f g le match others = none_right N g (λ i l. others i l (λ h m. omega arith))
+  like_each k (suc n) zero f g le match others = absurd (omega arith)
+  like_each k (suc n) (suc N) f g le match others =
       by_cases (dec_le (k + suc n) N)
-      (λ h. more-right (each (suc n) f) (each N g) (g N) (like-each k (suc n) N f g h match (λ i l. others i (omega arith))) (others N (omega arith) (λ a b. omega arith)))
+      (λ h. more_right (each (suc n) f) (each N g) (g N) (like_each k (suc n) N f g h match (λ i l. others i (omega arith))) (others N (omega arith) (λ a b. omega arith)))
       (λ h.
       let e : k + n ≡ N = omega (arith, h) in
-      like-then (each n f) (f n) (each N g) (g N)
-      (like-each k n N f g (omega arith) (λ i l. match i (omega arith)) (λ i l o. others i (omega arith) (λ a b. o a (omega arith))))
+      like_then (each n f) (f n) (each N g) (g N)
+      (like_each k n N f g (omega arith) (λ i l. match i (omega arith)) (λ i l o. others i (omega arith) (λ a b. o a (omega arith))))
       (subst (λ (i : ℕ). Like A (f n) (g i)) e (match n (omega arith))))
 
 -- ---- uses
 
-not-lt : {m n : ℕ} → ¬ (m < n) → n ≤ m
-not-lt h = omega (arith, h)
+not_lt : {m n : ℕ} → ¬ (m < n) → n ≤ m
+not_lt h = omega (arith, h)
 
 module _ (R : Pairing) where
   set-left : {v w : List ℤ} (p : ℕ) (x : ℤ) → ((j : ℕ) → ¬ R p j) → Alike R v w → Alike R (set v p x) w
@@ -144,13 +144,13 @@ module _ (R : Pairing) where
   put_right (q ∷ qs) xs h a = put_right qs (drop 1 xs) h.1 (set-right q (at xs 0) h.0 a)
 
   -- a use whose places correspond to none, on the left, and on the right
-  pub free-left : (o : Operator) (s : Program) (ps : List ℕ) → FreeLeft R ps → Like (Alike R) (apply o s ps end) end
-  unfolding run_by undoBy
-  free-left o s ps h = record { runs = λ v w. put-left ps _ h; undoes = λ v w. put-left ps _ h }
+  pub free_left : (o : Operator) (s : Program) (ps : List ℕ) → FreeLeft R ps → Like (Alike R) (apply o s ps end) end
+  unfolding run_by undo_by
+  free_left o s ps h = record { runs = λ v w. put-left ps _ h; undoes = λ v w. put-left ps _ h }
 
-  pub free-right : (o : Operator) (s : Program) (qs : List ℕ) → FreeRight R qs → Like (Alike R) end (apply o s qs end)
-  unfolding run_by undoBy
-  free-right o s qs h = record { runs = λ v w. put_right qs _ h; undoes = λ v w. put_right qs _ h }
+  pub free_right : (o : Operator) (s : Program) (qs : List ℕ) → FreeRight R qs → Like (Alike R) end (apply o s qs end)
+  unfolding run_by undo_by
+  free_right o s qs h = record { runs = λ v w. put_right qs _ h; undoes = λ v w. put_right qs _ h }
 
   module _ (one : OneToOne R) where
     set_both : {v w : List ℤ} {p q : ℕ} (x : ℤ) → R p q → Alike R v w → Alike R (set v p x) (set w q x)
@@ -163,7 +163,7 @@ module _ (R : Pairing) where
         stored =
             by_cases (dec_lt p (length v))
             (λ l. get_or-set_same v p x (pos 0) l ∙ sym (get_or-set_same w q x (pos 0) ((a.ends h).0 l)))
-            (λ n. rw (set_out v p x (omega (arith, n)), set_out w q x (not-lt (λ l. n ((a.ends h).1 l)))) (a.same h))
+            (λ n. rw (set_out v p x (omega (arith, n)), set_out w q x (not_lt (λ l. n ((a.ends h).1 l)))) (a.same h))
 
         same : {i j : ℕ} → R i j → at (set v p x) i ≡ at (set w q x) j
         same {i} {j} r =
@@ -189,5 +189,5 @@ module _ (R : Pairing) where
     use-both F ps qs {v} {w} h a = rw (get-both ps qs h a) (put_both ps qs (F (get qs w)) h a)
 
     pub like-use : (o : Operator) (s : Program) (ps qs : List ℕ) → Pairs R ps qs → Like (Alike R) (apply o s ps end) (apply o s qs end)
-    unfolding run_by undoBy
+    unfolding run_by undo_by
     like-use o s ps qs h = record { runs = λ v w. use-both (run s) ps qs h; undoes = λ v w. use-both (undo s) ps qs h }

@@ -84,8 +84,8 @@ pub record Sum (z : ℤ) : Type 0 where
 pub to64 : {z : ℤ} → Sum z → SFits w64 z
 to64 n = record { sfits = omega (arith, n.near) }
 
-pub near-held : (z : ℤ) → Sum z → mag (to_z w64 (of_z w64 z)) < 6442450944
-near-held z n = rw (to_z-of_z w64 z (to64 n)) n.near
+pub near_held : (z : ℤ) → Sum z → mag (to_z w64 (of_z w64 z)) < 6442450944
+near_held z n = rw (to_z-of_z w64 z (to64 n)) n.near
 
 pub add-near : (a b : ℤ) → SFits w32 a → SFits w32 b → Sum (a +ℤ b)
 add-near a b f g = record { near = omega (arith, mag-add a b, f.sfits, g.sfits) }
@@ -93,12 +93,12 @@ add-near a b f g = record { near = omega (arith, mag-add a b, f.sfits, g.sfits) 
 pub sub-near : (a b : ℤ) → SFits w32 a → SFits w32 b → Sum (a -ℤ b)
 sub-near a b f g = record { near = omega (arith, mag-add a (neg_ℤ b), mag-neg b, f.sfits, g.sfits) }
 
-pub shr-back : (a : ℤ) (k : ℕ) → SFits w32 a → to_z w32 (of_z w32 (shr_z (to_z w32 (of_z w32 a)) k)) ≡ shr_z a k
-shr-back a k f = rw (to_z-of_z w32 a f) (to_z-of_z w32 (shr_z a k) (sfits_le (mag_shr a k) f))
+pub shr_back : (a : ℤ) (k : ℕ) → SFits w32 a → to_z w32 (of_z w32 (shr_z (to_z w32 (of_z w32 a)) k)) ≡ shr_z a k
+shr_back a k f = rw (to_z-of_z w32 a f) (to_z-of_z w32 (shr_z a k) (sfits_le (mag_shr a k) f))
 
 -- what an operator computes is read back as it was
 pub again : (z : ℤ) → to_z w32 (of_z w32 (wrap z)) ≡ wrap z
 again z = to_z-of_z w32 (wrap z) (wrap-fits z)
 
-pub again-shr : (z : ℤ) (k : ℕ) → to_z w32 (of_z w32 (shr_z (wrap z) k)) ≡ shr_z (wrap z) k
-again-shr z k = to_z-of_z w32 (shr_z (wrap z) k) (sfits_le (mag_shr (wrap z) k) (wrap-fits z))
+pub again_shr : (z : ℤ) (k : ℕ) → to_z w32 (of_z w32 (shr_z (wrap z) k)) ≡ shr_z (wrap z) k
+again_shr z k = to_z-of_z w32 (shr_z (wrap z) k) (sfits_le (mag_shr (wrap z) k) (wrap-fits z))

@@ -6,13 +6,13 @@ use mathlib.Core.List.{List, [], ◌∷◌}
 use native.Mathlib.Omega.{arith}
 use lib.ListN.{length, set, drop}
 use lib.IntN.{ℤ, nat_abs}
-use Rattle.lifting.specs.Program.{Program, end, apply, Operator, at, get, put, run, undo, run_by, undoBy}
-use Rattle.lifting.specs.Wraps.{wraps, undoWraps, Within, Reaches}
-use Rattle.lifting.proofs.Compose.{run-then, undo-then}
+use Rattle.lifting.specs.Program.{Program, end, apply, Operator, at, get, put, run, undo, run_by, undo_by}
+use Rattle.lifting.specs.Wraps.{wraps, undo_wraps, Within, Reaches}
+use Rattle.lifting.proofs.Compose.{run_then, undo_then}
 use Rattle.lifting.proofs.Tests.{no_or}
 use Rattle.lifting.proofs.Between.{All, all_map}
 use Rattle.lifting.proofs.Apart.{Joins, put_rest}
-use Rattle.lifting.proofs.NoWrap.{wraps-then, undo-wraps-then, wraps-apply, undo-wraps-apply}
+use Rattle.lifting.proofs.NoWrap.{wraps_then, undo_wraps_then, wraps-apply, undo-wraps-apply}
 
 -- ---- magnitudes
 
@@ -56,8 +56,8 @@ pub record Calm (B C : ℕ) (S : ℕ → Type 0) (wrapped : List ℤ → Bool) (
   pub rest : (v : List ℤ) (i : ℕ) → ¬ S i → at (after v) i ≡ at v i
 
 module _ {B C : ℕ} where
-  calm-weaken : {S U : ℕ → Type 0} {w : List ℤ → Bool} {f : List ℤ → List ℤ} → ((i : ℕ) → S i → U i) → Calm B C S w f → Calm B C U w f
-  calm-weaken k h = record {
+  calm_weaken : {S U : ℕ → Type 0} {w : List ℤ → Bool} {f : List ℤ → List ℤ} → ((i : ℕ) → S i → U i) → Calm B C S w f → Calm B C U w f
+  calm_weaken k h = record {
     calm = λ m l. h.calm m (λ i s. l i (k i s));
     most = λ m l. h.most m (λ i s. l i (k i s));
     rest = λ v i n. h.rest v i (λ s. n (k i s));
@@ -76,16 +76,16 @@ module _ {B C : ℕ} where
       kept v h i r = rw (a.rest v i (λ s. d i s r)) (h i (l i r))
 
   -- a use at places of S
-  calm-use : {n : ℕ} {S : ℕ → Type 0} {w : List ℤ → Bool} {f : List ℤ → List ℤ} (ps : List ℕ)
+  calm_use : {n : ℕ} {S : ℕ → Type 0} {w : List ℤ → Bool} {f : List ℤ → List ℤ} (ps : List ℕ)
       → Reaches n B C w f → length ps ≡ n → All S ps → Calm B C S (λ v. w (get ps v)) (λ v. put ps (f (get ps v)) v)
-  calm-use {S} {f} ps g e s = record {
+  calm_use {S} {f} ps g e s = record {
     calm = λ {v} c h. g.calm (length-get ps v ∙ e) (within-get B ps v (all_map ps h s));
     most = λ {v} c h. within-put ps (g.most (length-get ps v ∙ e) (within-get B ps v (all_map ps h s))) c;
     rest = λ v. put_rest S ps (f (get ps v)) v s;
   }
 
-  calm-as : {S : ℕ → Type 0} {w x : List ℤ → Bool} {f g : List ℤ → List ℤ} → ((v : List ℤ) → x v ≡ w v) → ((v : List ℤ) → g v ≡ f v) → Calm B C S w f → Calm B C S x g
-  calm-as k l h = record {
+  calm_as : {S : ℕ → Type 0} {w x : List ℤ → Bool} {f g : List ℤ → List ℤ} → ((v : List ℤ) → x v ≡ w v) → ((v : List ℤ) → g v ≡ f v) → Calm B C S w f → Calm B C S x g
+  calm_as k l h = record {
     calm = λ {v} m s. k v ∙ h.calm m s;
     most = λ {v} m s. subst (Within C) (sym (l v)) (h.most m s);
     rest = λ v i n. ap (λ u. at u i) (l v) ∙ h.rest v i n;
@@ -97,29 +97,29 @@ abbrev pub RunCalm : ℕ → ℕ → (ℕ → Type 0) → Program → Type 0
 RunCalm B C S a = Calm B C S (wraps a) (run a)
 
 abbrev pub UndoCalm : ℕ → ℕ → (ℕ → Type 0) → Program → Type 0
-UndoCalm B C S a = Calm B C S (undoWraps a) (undo a)
+UndoCalm B C S a = Calm B C S (undo_wraps a) (undo a)
 
-pub run-joins : (B C : ℕ) → Joins (RunCalm B C)
+pub run_joins : (B C : ℕ) → Joins (RunCalm B C)
 unfolding wraps run_by
-run-joins B C = record {
+run_joins B C = record {
   nothing = λ S. record { calm = λ m l. refl; most = λ m l. m; rest = λ v i n. refl };
-  weaken = calm-weaken;
-  join = λ {S} {R} {U} {a} {b} d k l h m. calm-as (wraps-then a b) (run-then a b) (calm-after d k l h m);
+  weaken = calm_weaken;
+  join = λ {S} {R} {U} {a} {b} d k l h m. calm_as (wraps_then a b) (run_then a b) (calm-after d k l h m);
 }
 
-pub undo-joins : (B C : ℕ) → Joins (UndoCalm B C)
-unfolding undoWraps undoBy
-undo-joins B C = record {
+pub undo_joins : (B C : ℕ) → Joins (UndoCalm B C)
+unfolding undo_wraps undo_by
+undo_joins B C = record {
   nothing = λ S. record { calm = λ m l. refl; most = λ m l. m; rest = λ v i n. refl };
-  weaken = calm-weaken;
-  join = λ {S} {R} {U} {a} {b} d k l h m. calm-as (undo-wraps-then a b) (undo-then a b) (calm-after (λ i r s. d i s r) l k m h);
+  weaken = calm_weaken;
+  join = λ {S} {R} {U} {a} {b} d k l h m. calm_as (undo_wraps_then a b) (undo_then a b) (calm-after (λ i r s. d i s r) l k m h);
 }
 
 module _ {n B C : ℕ} {S : ℕ → Type 0} (o : Operator) (s : Program) (ps : List ℕ) where
-  pub run-use : Reaches n B C (wraps s) (run s) → length ps ≡ n → All S ps → RunCalm B C S (apply o s ps end)
+  pub run_use : Reaches n B C (wraps s) (run s) → length ps ≡ n → All S ps → RunCalm B C S (apply o s ps end)
   unfolding run_by
-  run-use g e h = calm-as (wraps-apply o s ps) (λ v. refl) (calm-use ps g e h)
+  run_use g e h = calm_as (wraps-apply o s ps) (λ v. refl) (calm_use ps g e h)
 
-  pub undo-use : Reaches n B C (undoWraps s) (undo s) → length ps ≡ n → All S ps → UndoCalm B C S (apply o s ps end)
-  unfolding undoBy
-  undo-use g e h = calm-as (undo-wraps-apply o s ps) (λ v. refl) (calm-use ps g e h)
+  pub undo_use : Reaches n B C (undo_wraps s) (undo s) → length ps ≡ n → All S ps → UndoCalm B C S (apply o s ps end)
+  unfolding undo_by
+  undo_use g e h = calm_as (undo-wraps-apply o s ps) (λ v. refl) (calm_use ps g e h)

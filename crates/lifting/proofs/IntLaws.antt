@@ -10,12 +10,12 @@ use Rattle.lifting.proofs.WrapLaws.{by_cond}
 
 -- ---- the ring
 
-pub swap-last : (a b c : ℤ) → a +ℤ b +ℤ c ≡ a +ℤ c +ℤ b
-swap-last a b c = +ℤ_assoc a b c ∙ ap (λ x. a +ℤ x) (+ℤ_comm b c) ∙ sym (+ℤ_assoc a c b)
+pub swap_last : (a b c : ℤ) → a +ℤ b +ℤ c ≡ a +ℤ c +ℤ b
+swap_last a b c = +ℤ_assoc a b c ∙ ap (λ x. a +ℤ x) (+ℤ_comm b c) ∙ sym (+ℤ_assoc a c b)
 
 -- (a + b) + (c + d), the inner two exchanged
 pub middle : (a b c d : ℤ) → (a +ℤ b) +ℤ (c +ℤ d) ≡ (a +ℤ c) +ℤ (b +ℤ d)
-middle a b c d = sym (+ℤ_assoc (a +ℤ b) c d) ∙ ap (λ x. x +ℤ d) (swap-last a b c) ∙ +ℤ_assoc (a +ℤ c) b d
+middle a b c d = sym (+ℤ_assoc (a +ℤ b) c d) ∙ ap (λ x. x +ℤ d) (swap_last a b c) ∙ +ℤ_assoc (a +ℤ c) b d
 
 pub *ℤ-distrib : (a b c : ℤ) → (a +ℤ b) *ℤ c ≡ a *ℤ c +ℤ b *ℤ c
 *ℤ-distrib a b c = ℤ_ind (λ a. (a +ℤ b) *ℤ c ≡ a *ℤ c +ℤ b *ℤ c)
@@ -25,10 +25,10 @@ pub *ℤ-distrib : (a b c : ℤ) → (a +ℤ b) *ℤ c ≡ a *ℤ c +ℤ b *ℤ 
     a
   where
     up : (x : ℤ) → (x +ℤ b) *ℤ c ≡ x *ℤ c +ℤ b *ℤ c → (suc_ℤ x +ℤ b) *ℤ c ≡ suc_ℤ x *ℤ c +ℤ b *ℤ c
-    up x h = ap (λ y. y *ℤ c) (suc_ℤ-+ℤ x b) ∙ suc_ℤ-*ℤ (x +ℤ b) c ∙ ap (λ y. y +ℤ c) h ∙ swap-last (x *ℤ c) (b *ℤ c) c ∙ ap (λ y. y +ℤ b *ℤ c) (sym (suc_ℤ-*ℤ x c))
+    up x h = ap (λ y. y *ℤ c) (suc_ℤ-+ℤ x b) ∙ suc_ℤ-*ℤ (x +ℤ b) c ∙ ap (λ y. y +ℤ c) h ∙ swap_last (x *ℤ c) (b *ℤ c) c ∙ ap (λ y. y +ℤ b *ℤ c) (sym (suc_ℤ-*ℤ x c))
 
     down : (x : ℤ) → (x +ℤ b) *ℤ c ≡ x *ℤ c +ℤ b *ℤ c → (pred_ℤ x +ℤ b) *ℤ c ≡ pred_ℤ x *ℤ c +ℤ b *ℤ c
-    down x h = ap (λ y. y *ℤ c) (pred_ℤ-+ℤ x b) ∙ pred_ℤ-*ℤ (x +ℤ b) c ∙ ap (λ y. y -ℤ c) h ∙ swap-last (x *ℤ c) (b *ℤ c) (neg_ℤ c) ∙ ap (λ y. y +ℤ b *ℤ c) (sym (pred_ℤ-*ℤ x c))
+    down x h = ap (λ y. y *ℤ c) (pred_ℤ-+ℤ x b) ∙ pred_ℤ-*ℤ (x +ℤ b) c ∙ ap (λ y. y -ℤ c) h ∙ swap_last (x *ℤ c) (b *ℤ c) (neg_ℤ c) ∙ ap (λ y. y +ℤ b *ℤ c) (sym (pred_ℤ-*ℤ x c))
 
 pub *ℤ-distrib-left : (a b c : ℤ) → a *ℤ (b +ℤ c) ≡ a *ℤ b +ℤ a *ℤ c
 *ℤ-distrib-left a b c = *ℤ_comm a (b +ℤ c) ∙ *ℤ-distrib b c a ∙ ap (λ x. x +ℤ c *ℤ a) (*ℤ_comm b a) ∙ ap (λ x. a *ℤ b +ℤ x) (*ℤ_comm c a)
@@ -94,8 +94,8 @@ near-size {a} {b} {e} h = subst (λ x. nat_abs x ≤ nat_abs b + e) (-ℤ-+ℤ_c
 pub near-wide : {a b : ℤ} {e f : ℕ} → e ≤ f → Near a b e → Near a b f
 near-wide l h = record { near = omega (arith, h.near) }
 
-pub near-trans : {a b c : ℤ} {e f : ℕ} → Near a b e → Near b c f → Near a c (e + f)
-near-trans {a} {b} {c} {e} {f} h k = record { near = subst (λ x. nat_abs x ≤ e + f) joined (omega (arith, abs-add (a -ℤ b) (b -ℤ c), h.near, k.near)) }
+pub near_trans : {a b c : ℤ} {e f : ℕ} → Near a b e → Near b c f → Near a c (e + f)
+near_trans {a} {b} {c} {e} {f} h k = record { near = subst (λ x. nat_abs x ≤ e + f) joined (omega (arith, abs-add (a -ℤ b) (b -ℤ c), h.near, k.near)) }
   where
     joined : (a -ℤ b) +ℤ (b -ℤ c) ≡ a -ℤ c
     joined = sym (+ℤ_assoc (a -ℤ b) b (neg_ℤ c)) ∙ ap (λ x. x -ℤ c) (-ℤ-+ℤ_cancel a b)
@@ -106,8 +106,8 @@ scaled m a b = ap (λ x. m *ℤ a +ℤ x) (sym (*ℤ-negℤ m b)) ∙ sym (*ℤ-
 pub near-scale : (m : ℕ) {a b : ℤ} {e : ℕ} → Near a b e → Near (pos m *ℤ a) (pos m *ℤ b) (m * e)
 near-scale m {a} {b} h = record { near = rw (scaled (pos m) a b, abs-mul (pos m) (a -ℤ b)) (mul-le-mul_left m h.near) }
 
-pub near-unscale : (m : ℕ) {a b : ℤ} {e f : ℕ} → 0 < m → e ≤ m * f → Near (pos m *ℤ a) (pos m *ℤ b) e → Near a b f
-near-unscale m {a} {b} l k h =
+pub near_unscale : (m : ℕ) {a b : ℤ} {e f : ℕ} → 0 < m → e ≤ m * f → Near (pos m *ℤ a) (pos m *ℤ b) e → Near a b f
+near_unscale m {a} {b} l k h =
     let g = rw (scaled (pos m) a b, abs-mul (pos m) (a -ℤ b)) at h.near in
     record { near = le_of_mul-le-mul_left {k = m} (omega (arith, g)) l }
 

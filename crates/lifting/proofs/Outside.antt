@@ -11,7 +11,7 @@ use mir.Val.{SFits}
 use mir.Syntax.{w32}
 use Rattle.lifting.specs.Wrap.{wrap}
 use Rattle.lifting.specs.Wraps.{changes}
-use Rattle.lifting.proofs.WrapLaws.{wrap-fits, three-times}
+use Rattle.lifting.proofs.WrapLaws.{wrap-fits, three_times}
 use Rattle.lifting.proofs.Bits.{mid}
 use Rattle.lifting.proofs.NoWrap.{fits-calm, calm}
 
@@ -38,14 +38,14 @@ not-above s h = go (lt_z s (negsuc 2147483647)) refl
     go true e = below s e
     go false e = sym (fits-calm (mid s h e).small)
 
-fits-less : (a : ℤ) → SFits w32 (a +ℤ a +ℤ a) → SFits w32 (a +ℤ a)
-fits-less (pos n) f = let g : n + n + n < 2147483648 = f.sfits in record { sfits = omega arith }
-fits-less (negsuc n) f = let g : suc (suc (n + n) + n) < 2147483648 = f.sfits in record { sfits = omega arith }
+fits_less : (a : ℤ) → SFits w32 (a +ℤ a +ℤ a) → SFits w32 (a +ℤ a)
+fits_less (pos n) f = let g : n + n + n < 2147483648 = f.sfits in record { sfits = omega arith }
+fits_less (negsuc n) f = let g : suc (suc (n + n) + n) < 2147483648 = f.sfits in record { sfits = omega arith }
 
 -- three times a number is outside the range where twice the number is, or what is left of that and the number once more
-pub thrice-changes : (a : ℤ) → changes (a +ℤ a) || changes (wrap (a +ℤ a) +ℤ a) ≡ changes (pos 3 *ℤ a)
-thrice-changes a = go (changes (a +ℤ a)) refl
+pub thrice_changes : (a : ℤ) → changes (a +ℤ a) || changes (wrap (a +ℤ a) +ℤ a) ≡ changes (pos 3 *ℤ a)
+thrice_changes a = go (changes (a +ℤ a)) refl
   where
     go : (b : Bool) → changes (a +ℤ a) ≡ b → b || changes (wrap (a +ℤ a) +ℤ a) ≡ changes (pos 3 *ℤ a)
-    go true e = rw (three-times a) (sym (outside-changes _ (λ f. let z : ◌≡◌ {A = Bool} true false = sym e ∙ fits-calm (fits-less a f) in subst T z tt)))
-    go false e = rw (three-times a, calm _ e)
+    go true e = rw (three_times a) (sym (outside-changes _ (λ f. let z : ◌≡◌ {A = Bool} true false = sym e ∙ fits-calm (fits_less a f) in subst T z tt)))
+    go false e = rw (three_times a, calm _ e)

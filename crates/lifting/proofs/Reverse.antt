@@ -13,10 +13,10 @@ use mir.Val.{SFits}
 use mir.Syntax.{w32}
 use mir.Facts.{sfits_lit, and_yes, T_not}
 use Rattle.lifting.specs.Wrap.{wrap}
-use Rattle.lifting.proofs.WrapLaws.{wrap-fits, add-sub, sub-add, from-from, neg-neg}
-use Rattle.lifting.specs.Program.{Expr, var, ◌⊕◌, ◌⊖◌, 3×, ◌≫◌, Line, ◌+=◌, ◌-=◌, ◌from◌, neg, swap, Program, end, ◌⨾◌, reorder, apply, at, value, line, get, put, run, back, undo, lineBy, run_by, undoBy, valueBy}
+use Rattle.lifting.proofs.WrapLaws.{wrap-fits, add-sub, sub-add, from_from, neg-neg}
+use Rattle.lifting.specs.Program.{Expr, var, ◌⊕◌, ◌⊖◌, 3×, ◌≫◌, Line, ◌+=◌, ◌-=◌, ◌from◌, neg, swap, Program, end, ◌⨾◌, reorder, apply, at, value, line, get, put, run, back, undo, line_by, run_by, undo_by, value_by}
 use Rattle.lifting.specs.Row.{Row}
-use Rattle.lifting.specs.Valid.{without, validLine, notIn, places, counts, undoes, valid}
+use Rattle.lifting.specs.Valid.{without, valid_line, not_in, places, counts, undoes, valid}
 
 -- ---- tests
 
@@ -44,7 +44,7 @@ row-set : {n : ℕ} {v : List ℤ} (i : ℕ) {x : ℤ} → SFits w32 x → Row n
 row-set {v} i {x} h r = record { len = length-set v i x ∙ r.len; fit = fit-set v i h r.fit }
 
 pub row_line : {n : ℕ} (l : Line) {v : List ℤ} → Row n v → Row n (line l v)
-unfolding lineBy
+unfolding line_by
 row_line (i += e) r = row-set i (wrap-fits _) r
 row_line (i -= e) r = row-set i (wrap-fits _) r
 row_line (i from e) r = row-set i (wrap-fits _) r
@@ -94,7 +94,7 @@ unfolding get
 get-get [] qs v t = refl
 get-get (p ∷ ps) qs v t =
     let (a, b) = and_yes (ltb p (length qs)) _ t in
-    rw (at-get qs v p (ltb→lt p (length qs) a), get-get ps qs v (and_yes (notIn p ps) _ b).1)
+    rw (at-get qs v p (ltb→lt p (length qs) a), get-get ps qs v (and_yes (not_in p ps) _ b).1)
 
 map-length : (f : ℕ → ℕ) (ps : List ℕ) → length (map f ps) ≡ length ps
 map-length f [] = refl
@@ -117,7 +117,7 @@ row-reorder {n} {v} ps qs t r = let g = row_get ps r in record { len = g.len ∙
 pub row-run : {n : ℕ} {v : List ℤ} (p : Program) → T (valid n p) → Row n v → Row n (run p v)
 unfolding run_by
 row-run end t r = r
-row-run {n} (l ⨾ p) t r = row-run p (and_yes (validLine n l) _ t).1 (row_line l r)
+row-run {n} (l ⨾ p) t r = row-run p (and_yes (valid_line n l) _ t).1 (row_line l r)
 row-run {n} (reorder to back p) t r =
     let (a, b) = and_yes (undoes n to back) _ t in
     let (c, d) = and_yes (undoes n back to) _ b in
@@ -128,9 +128,9 @@ row-run {n} (apply o s ps p) t r =
     row-run p d (row_put ps (row-run s c (row_get ps r)) r)
 
 pub row-undo : {n : ℕ} {v : List ℤ} (p : Program) → T (valid n p) → Row n v → Row n (undo p v)
-unfolding undoBy
+unfolding undo_by
 row-undo end t r = r
-row-undo {n} (l ⨾ p) t r = row_line (back l) (row-undo p (and_yes (validLine n l) _ t).1 r)
+row-undo {n} (l ⨾ p) t r = row_line (back l) (row-undo p (and_yes (valid_line n l) _ t).1 r)
 row-undo {n} (reorder to back p) t r =
     let (a, b) = and_yes (undoes n to back) _ t in
     let (c, d) = and_yes (undoes n back to) _ b in
@@ -144,7 +144,7 @@ row-undo {n} (apply o s ps p) t r =
 -- ---- a line
 
 pub value_set : (n : ℕ) (e : Expr) (v : List ℤ) (i : ℕ) (x : ℤ) → T (without n i e) → value e (set v i x) ≡ value e v
-unfolding valueBy
+unfolding value_by
 value_set n (var j) v i x t = get_or-set_other v i j x (pos 0) (λ q. apart i j (and_yes (ltb j n) _ t).1 (sym q))
 value_set n (e ⊕ k) v i x t = rw (value_set n e v i x t)
 value_set n (e ⊖ f) v i x t = let h = and_yes (without n i e) (without n i f) t in rw (value_set n e v i x h.0, value_set n f v i x h.1)
@@ -162,11 +162,11 @@ module _ (F G : ℤ → ℤ → ℤ) (back-F : (a t : ℤ) → SFits w32 a → G
       let h : i < length v = omega (arith, ltb→lt i n b, r.len) in
       undo-set v i _ _ (rw (get_or-set_same v i _ (pos 0) h, value_set n e v i _ c) (back-F (at v i) (value e v) (r.fit i)))
 
-pub line-back : {n : ℕ} {v : List ℤ} (l : Line) → T (validLine n l) → Row n v → line (back l) (line l v) ≡ v
-unfolding lineBy back
+pub line-back : {n : ℕ} {v : List ℤ} (l : Line) → T (valid_line n l) → Row n v → line (back l) (line l v) ≡ v
+unfolding line_by back
 line-back (i += e) t r = update-back (λ a x. wrap (a +ℤ x)) (λ a x. wrap (a -ℤ x)) (λ a x f. add-sub x f) i e t r
 line-back (i -= e) t r = update-back (λ a x. wrap (a -ℤ x)) (λ a x. wrap (a +ℤ x)) (λ a x f. sub-add x f) i e t r
-line-back (i from e) t r = update-back (λ a x. wrap (x -ℤ a)) (λ a x. wrap (x -ℤ a)) (λ a x f. from-from x f) i e t r
+line-back (i from e) t r = update-back (λ a x. wrap (x -ℤ a)) (λ a x. wrap (x -ℤ a)) (λ a x f. from_from x f) i e t r
 line-back {n} {v} (neg i) t r = undo-set v i _ _ (rw (get_or-set_same v i _ (pos 0) (omega (arith, ltb→lt i n t, r.len))) (neg-neg (r.fit i)))
 line-back {n} {v} (swap i j) t r =
     let (b, c) = and_yes (ltb i n) _ t in
@@ -184,7 +184,7 @@ back-back (i from e) = refl
 back-back (neg i) = refl
 back-back (swap i j) = refl
 
-valid-back : (n : ℕ) (l : Line) → T (validLine n l) → T (validLine n (back l))
+valid-back : (n : ℕ) (l : Line) → T (valid_line n l) → T (valid_line n (back l))
 unfolding back
 valid-back n (i += e) t = t
 valid-back n (i -= e) t = t
@@ -192,7 +192,7 @@ valid-back n (i from e) t = t
 valid-back n (neg i) t = t
 valid-back n (swap i j) t = t
 
-pub back-line : {n : ℕ} {v : List ℤ} (l : Line) → T (validLine n l) → Row n v → line l (line (back l) v) ≡ v
+pub back-line : {n : ℕ} {v : List ℤ} (l : Line) → T (valid_line n l) → Row n v → line l (line (back l) v) ≡ v
 back-line {n} {v} l t r = ap (λ k. line k (line (back l) v)) (sym (back-back l)) ∙ line-back (back l) (valid-back n l t) r
 
 -- ---- a use
@@ -202,7 +202,7 @@ unfolding put
 length-put [] xs v = refl
 length-put (p ∷ ps) xs v = length-put ps (drop 1 xs) (set v p (at xs 0)) ∙ length-set v p (at xs 0)
 
-put-set : (ps : List ℕ) (xs v : List ℤ) (p : ℕ) (x : ℤ) → T (notIn p ps) → put ps xs (set v p x) ≡ set (put ps xs v) p x
+put-set : (ps : List ℕ) (xs v : List ℤ) (p : ℕ) (x : ℤ) → T (not_in p ps) → put ps xs (set v p x) ≡ set (put ps xs v) p x
 unfolding put
 put-set [] xs v p x t = refl
 put-set (q ∷ ps) xs v p x t =
@@ -214,7 +214,7 @@ unfolding put get
 restore n [] xs v t = refl
 restore n (p ∷ ps) xs v t =
     let (b, c) = and_yes (ltb p n) _ t in
-    let (d, e) = and_yes (notIn p ps) _ c in
+    let (d, e) = and_yes (not_in p ps) _ c in
     rw (put-set ps (drop 1 xs) v p (at xs 0) d, set-set, ← put-set ps (drop 1 xs) v p (at v p) d, set-get_or) (restore n ps (drop 1 xs) v e)
 
 pub get-put : {n : ℕ} (ps : List ℕ) (xs v : List ℤ) → T (places n ps) → length xs ≡ length ps → length v ≡ n → get ps (put ps xs v) ≡ xs
@@ -224,22 +224,22 @@ get-put [] (x ∷ xs) v t h k = absurd (omega arith)
 get-put (p ∷ ps) [] v t h k = absurd (omega arith)
 get-put {n} (p ∷ ps) (x ∷ xs) v t h k =
     let (b, c) = and_yes (ltb p n) _ t in
-    let (d, e) = and_yes (notIn p ps) _ c in
+    let (d, e) = and_yes (not_in p ps) _ c in
     let l : p < length (put ps xs v) = omega (arith, length-put ps xs v, ltb→lt p n b) in
     rw (get-put ps xs (set v p x) e (omega arith) (length-set v p x ∙ k), put-set ps xs v p x d, get_or-set_same (put ps xs v) p x (pos 0) l)
 
-use-back : {n : ℕ} {v : List ℤ} (ps : List ℕ) (F G : List ℤ → List ℤ) → T (places n ps) → Row n v
+use_back : {n : ℕ} {v : List ℤ} (ps : List ℕ) (F G : List ℤ → List ℤ) → T (places n ps) → Row n v
     → length (F (get ps v)) ≡ length ps → G (F (get ps v)) ≡ get ps v
     → let u = put ps (F (get ps v)) v in put ps (G (get ps u)) u ≡ v
-use-back {n} {v} ps F G t r h e = rw (get-put ps (F (get ps v)) v t h r.len, e) (restore n ps (F (get ps v)) v t)
+use_back {n} {v} ps F G t r h e = rw (get-put ps (F (get ps v)) v t h r.len, e) (restore n ps (F (get ps v)) v t)
 
 -- ---- a program
 
 pub undo-run : {n : ℕ} {v : List ℤ} (p : Program) → T (valid n p) → Row n v → undo p (run p v) ≡ v
-unfolding undoBy run_by
+unfolding undo_by run_by
 undo-run end t r = refl
 undo-run {n} (l ⨾ p) t r =
-    let (a, b) = and_yes (validLine n l) _ t in
+    let (a, b) = and_yes (valid_line n l) _ t in
     rw (undo-run p b (row_line l r)) (line-back l a r)
 undo-run {n} {v} (reorder to back p) t r =
     let (a, b) = and_yes (undoes n to back) _ t in
@@ -249,13 +249,13 @@ undo-run {n} {v} (apply o s ps p) t r =
     let (a, b) = and_yes (places n ps) _ t in
     let (c, d) = and_yes (valid (length ps) s) _ b in
     let g = row_get ps r in
-    rw (undo-run p d (row_put ps (row-run s c g) r)) (use-back ps (run s) (undo s) a r (row-run s c g).len (undo-run s c g))
+    rw (undo-run p d (row_put ps (row-run s c g) r)) (use_back ps (run s) (undo s) a r (row-run s c g).len (undo-run s c g))
 
 pub run-undo : {n : ℕ} {v : List ℤ} (p : Program) → T (valid n p) → Row n v → run p (undo p v) ≡ v
-unfolding undoBy run_by
+unfolding undo_by run_by
 run-undo end t r = refl
 run-undo {n} (l ⨾ p) t r =
-    let (a, b) = and_yes (validLine n l) _ t in
+    let (a, b) = and_yes (valid_line n l) _ t in
     rw (back-line l a (row-undo p b r)) (run-undo p b r)
 run-undo {n} {v} (reorder to back p) t r =
     let (a, b) = and_yes (undoes n to back) _ t in
@@ -267,4 +267,4 @@ run-undo {n} {v} (apply o s ps p) t r =
     let (c, d) = and_yes (valid (length ps) s) _ b in
     let u = row-undo p d r in
     let g = row_get ps u in
-    rw (use-back ps (undo s) (run s) a u (row-undo s c g).len (run-undo s c g)) (run-undo p d r)
+    rw (use_back ps (undo s) (run s) a u (row-undo s c g).len (run-undo s c g)) (run-undo p d r)

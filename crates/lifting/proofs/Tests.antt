@@ -18,9 +18,9 @@ all-at (suc n) f t k h = case (dec_le n k) (all-at n f (and_yes (all n f) _ t).0
     case (yes g) below = let e : n ≡ k = omega arith in subst (λ (i : ℕ). T (f i)) e (and_yes (all n f) _ t).1
     case (no g) below = below (omega (arith, g))
 
-pub all-fails : (n k : ℕ) (f : ℕ → Bool) → all k f ≡ false → k ≤ n → all n f ≡ false
-all-fails zero k f e h = let z : k ≡ 0 = omega arith in subst (λ (i : ℕ). all i f ≡ false) z e
-all-fails (suc n) k f e h = case (dec_le k n) (all-fails n k f e)
+pub all_fails : (n k : ℕ) (f : ℕ → Bool) → all k f ≡ false → k ≤ n → all n f ≡ false
+all_fails zero k f e h = let z : k ≡ 0 = omega arith in subst (λ (i : ℕ). all i f ≡ false) z e
+all_fails (suc n) k f e h = case (dec_le k n) (all_fails n k f e)
   where
     case : Dec (k ≤ n) → (k ≤ n → all n f ≡ false) → all n f && f n ≡ false
     case (yes g) below = rw (below g)
@@ -49,20 +49,20 @@ any_same zero f g h = refl
 any_same (suc n) f g h = ap₂ ◌||◌ (any_same n f g (λ k l. h k (omega arith))) (h n (omega arith))
 
 -- the first m, and n more
-any-more : (m n : ℕ) (f : ℕ → Bool) → any (m + n) f ≡ any m f || any n (λ i. f (m + i))
-any-more m zero f = rw (add-zero m) (sym (or-false (any m f)))
-any-more m (suc n) f = rw (add-suc m n) (ap (λ b. b || f (m + n)) (any-more m n f) ∙ or_assoc (any m f) _ _)
+any_more : (m n : ℕ) (f : ℕ → Bool) → any (m + n) f ≡ any m f || any n (λ i. f (m + i))
+any_more m zero f = rw (add-zero m) (sym (or-false (any m f)))
+any_more m (suc n) f = rw (add-suc m n) (ap (λ b. b || f (m + n)) (any_more m n f) ∙ or_assoc (any m f) _ _)
 
 -- q rows of p
 pub any-rows : (p q : ℕ) (f : ℕ → Bool) → any q (λ j. any p (λ i. f (j * p + i))) ≡ any (p * q) f
 any-rows p zero f = rw (mul-zero p)
-any-rows p (suc q) f = rw (mul-suc p q, any-more (p * q) p f) (ap₂ ◌||◌ (any-rows p q f) (ap (λ n. any p (λ i. f (n + i))) (mul_comm q p)))
+any-rows p (suc q) f = rw (mul-suc p q, any_more (p * q) p f) (ap₂ ◌||◌ (any-rows p q f) (ap (λ n. any p (λ i. f (n + i))) (mul_comm q p)))
 
 -- ---- a walk that ends at the first
 
-pub any-yes : (n : ℕ) (f : ℕ → Bool) (k : ℕ) → k < n → f k ≡ true → any n f ≡ true
-any-yes zero f k h e = absurd (omega arith)
-any-yes (suc n) f k h e = case (dec_le n k) (λ l. any-yes n f k l e)
+pub any_yes : (n : ℕ) (f : ℕ → Bool) (k : ℕ) → k < n → f k ≡ true → any n f ≡ true
+any_yes zero f k h e = absurd (omega arith)
+any_yes (suc n) f k h e = case (dec_le n k) (λ l. any_yes n f k l e)
   where
     case : Dec (n ≤ k) → (k < n → any n f ≡ true) → any n f || f n ≡ true
     case (yes g) below = let z : k ≡ n = omega arith in or_comm (any n f) (f n) ∙ ap (λ b. b || any n f) (subst (λ (i : ℕ). f i ≡ true) z e)

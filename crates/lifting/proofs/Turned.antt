@@ -13,13 +13,13 @@ use mir.Val.{SFits}
 use mir.Syntax.{w32}
 use mir.Facts.{and_yes}
 use Rattle.lifting.specs.Wrap.{wrap}
-use Rattle.lifting.specs.Program.{Expr, var, ◌⊕◌, ◌⊖◌, 3×, ◌≫◌, Line, ◌+=◌, ◌-=◌, ◌from◌, neg, swap, Program, end, ◌⨾◌, reorder, apply, at, value, line, get, put, run, back, undo, lineBy, run_by}
+use Rattle.lifting.specs.Program.{Expr, var, ◌⊕◌, ◌⊖◌, 3×, ◌≫◌, Line, ◌+=◌, ◌-=◌, ◌from◌, neg, swap, Program, end, ◌⨾◌, reorder, apply, at, value, line, get, put, run, back, undo, line_by, run_by}
 use Rattle.lifting.specs.Row.{Row}
-use Rattle.lifting.specs.Valid.{without, validLine, places, undoes, valid}
-use Rattle.lifting.specs.Wraps.{same, changes, valueWraps, lineWraps, wraps, undoWraps}
-use Rattle.lifting.proofs.WrapLaws.{add-sub, sub-add, from-from, neg-neg}
+use Rattle.lifting.specs.Valid.{without, valid_line, places, undoes, valid}
+use Rattle.lifting.specs.Wraps.{same, changes, value_wraps, line_wraps, wraps, undo_wraps}
+use Rattle.lifting.proofs.WrapLaws.{add-sub, sub-add, from_from, neg-neg}
 use Rattle.lifting.proofs.Reverse.{row_line, row_get, row_put, row-reorder, row-run, row-undo, value_set, get-put, undo-run, run-undo}
-use Rattle.lifting.proofs.NoWrap.{same_refl, same-eq}
+use Rattle.lifting.proofs.NoWrap.{same_refl, same_eq}
 
 -- ---- a sum
 
@@ -30,12 +30,12 @@ both_ways true false f g = absurd (f tt)
 both_ways false true f g = absurd (g tt)
 both_ways false false f g = refl
 
-same-yes : {x y : ℤ} → x ≡ y → T (same x y)
-same-yes {x} e = rw (← e, same_refl x) tt
+same_yes : {x y : ℤ} → x ≡ y → T (same x y)
+same_yes {x} e = rw (← e, same_refl x) tt
 
 -- what an expression reads does not change with a variable that it does not have
-value-wraps-set : (n : ℕ) (e : Expr) (v : List ℤ) (i : ℕ) (x : ℤ) → T (without n i e) → valueWraps e (set v i x) ≡ valueWraps e v
-unfolding valueWraps
+value-wraps-set : (n : ℕ) (e : Expr) (v : List ℤ) (i : ℕ) (x : ℤ) → T (without n i e) → value_wraps e (set v i x) ≡ value_wraps e v
+unfolding value_wraps
 value-wraps-set n (var j) v i x t = refl
 value-wraps-set n (e ⊕ k) v i x t = rw (value-wraps-set n e v i x t, value_set n e v i x t)
 value-wraps-set n (e ⊖ f) v i x t =
@@ -46,56 +46,56 @@ value-wraps-set n (e ≫ k) v i x t = value-wraps-set n e v i x t
 
 -- F on a variable in the range, taken back by G: over whole integers, and over 32 bits
 module _ (F G : ℤ → ℤ → ℤ) (G-F : (a t : ℤ) → G (F a t) t ≡ a) (F-G : (a t : ℤ) → F (G a t) t ≡ a) (back-F : (a t : ℤ) → SFits w32 a → wrap (G (wrap (F a t)) t) ≡ a) where
-  change-turned : (a t : ℤ) → SFits w32 a → changes (F a t) ≡ changes (G (wrap (F a t)) t)
+  change_turned : (a t : ℤ) → SFits w32 a → changes (F a t) ≡ changes (G (wrap (F a t)) t)
   unfolding changes
-  change-turned a t f =
+  change_turned a t f =
       let w = wrap (F a t) in
       let e : same w (F a t) ≡ same a (G w t) = both_ways (same w (F a t)) (same a (G w t))
-      (λ h. same-yes (sym (ap (λ z. G z t) (same-eq w (F a t) h) ∙ G-F a t)))
-      (λ h. same-yes (sym (ap (λ z. F z t) (same-eq a (G w t) h) ∙ F-G w t))) in
+      (λ h. same_yes (sym (ap (λ z. G z t) (same_eq w (F a t) h) ∙ G-F a t)))
+      (λ h. same_yes (sym (ap (λ z. F z t) (same_eq a (G w t) h) ∙ F-G w t))) in
       rw (back-F a t f) (ap not e)
 
-  update-turned : {n : ℕ} {v : List ℤ} (i : ℕ) (e : Expr) → T (ltb i n && without n i e) → Row n v
-      → let w = set v i (wrap (F (at v i) (value e v))) in valueWraps e v || changes (F (at v i) (value e v)) ≡ valueWraps e w || changes (G (at w i) (value e w))
-  update-turned {n} {v} i e t r =
+  update_turned : {n : ℕ} {v : List ℤ} (i : ℕ) (e : Expr) → T (ltb i n && without n i e) → Row n v
+      → let w = set v i (wrap (F (at v i) (value e v))) in value_wraps e v || changes (F (at v i) (value e v)) ≡ value_wraps e w || changes (G (at w i) (value e w))
+  update_turned {n} {v} i e t r =
       let (b, c) = and_yes (ltb i n) _ t in
       let h : i < length v = omega (arith, ltb→lt i n b, r.len) in
       let x = wrap (F (at v i) (value e v)) in
-      rw (get_or-set_same v i x (pos 0) h, value_set n e v i x c, value-wraps-set n e v i x c) (ap (λ y. valueWraps e v || y) (change-turned (at v i) (value e v) (r.fit i)))
+      rw (get_or-set_same v i x (pos 0) h, value_set n e v i x c, value-wraps-set n e v i x c) (ap (λ y. value_wraps e v || y) (change_turned (at v i) (value e v) (r.fit i)))
 
-from-again : (a t : ℤ) → t -ℤ (t -ℤ a) ≡ a
-from-again a t = rw (neg_ℤ-+ℤ t (neg_ℤ a), ← +ℤ_assoc t (neg_ℤ t) (neg_ℤ (neg_ℤ a)), +ℤ_invr t, +ℤ_idl (neg_ℤ (neg_ℤ a)), neg_ℤ-neg_ℤ a)
+from_again : (a t : ℤ) → t -ℤ (t -ℤ a) ≡ a
+from_again a t = rw (neg_ℤ-+ℤ t (neg_ℤ a), ← +ℤ_assoc t (neg_ℤ t) (neg_ℤ (neg_ℤ a)), +ℤ_invr t, +ℤ_idl (neg_ℤ (neg_ℤ a)), neg_ℤ-neg_ℤ a)
 
-line-turned : {n : ℕ} {v : List ℤ} (l : Line) → T (validLine n l) → Row n v → lineWraps l v ≡ lineWraps (back l) (line l v)
-unfolding lineBy lineWraps back
-line-turned (i += e) t r = update-turned (λ a x. a +ℤ x) (λ a x. a -ℤ x) +ℤ-neg_ℤ_cancel -ℤ-+ℤ_cancel (λ a x f. add-sub x f) i e t r
-line-turned (i -= e) t r = update-turned (λ a x. a -ℤ x) (λ a x. a +ℤ x) -ℤ-+ℤ_cancel +ℤ-neg_ℤ_cancel (λ a x f. sub-add x f) i e t r
-line-turned (i from e) t r = update-turned (λ a x. x -ℤ a) (λ a x. x -ℤ a) from-again from-again (λ a x f. from-from x f) i e t r
-line-turned {n} {v} (neg i) t r =
+line_turned : {n : ℕ} {v : List ℤ} (l : Line) → T (valid_line n l) → Row n v → line_wraps l v ≡ line_wraps (back l) (line l v)
+unfolding line_by line_wraps back
+line_turned (i += e) t r = update_turned (λ a x. a +ℤ x) (λ a x. a -ℤ x) +ℤ-neg_ℤ_cancel -ℤ-+ℤ_cancel (λ a x f. add-sub x f) i e t r
+line_turned (i -= e) t r = update_turned (λ a x. a -ℤ x) (λ a x. a +ℤ x) -ℤ-+ℤ_cancel +ℤ-neg_ℤ_cancel (λ a x f. sub-add x f) i e t r
+line_turned (i from e) t r = update_turned (λ a x. x -ℤ a) (λ a x. x -ℤ a) from_again from_again (λ a x f. from_from x f) i e t r
+line_turned {n} {v} (neg i) t r =
     rw (get_or-set_same v i (wrap (neg_ℤ (at v i))) (pos 0) (omega (arith, ltb→lt i n t, r.len)))
-    (change-turned (λ a x. neg_ℤ a) (λ a x. neg_ℤ a) (λ a x. neg_ℤ-neg_ℤ a) (λ a x. neg_ℤ-neg_ℤ a) (λ a x f. neg-neg f) (at v i) (pos 0) (r.fit i))
-line-turned (swap i j) t r = refl
+    (change_turned (λ a x. neg_ℤ a) (λ a x. neg_ℤ a) (λ a x. neg_ℤ-neg_ℤ a) (λ a x. neg_ℤ-neg_ℤ a) (λ a x f. neg-neg f) (at v i) (pos 0) (r.fit i))
+line_turned (swap i j) t r = refl
 
 -- ---- a program
 
-pub wraps-turned : {n : ℕ} {v : List ℤ} (p : Program) → T (valid n p) → Row n v → wraps p v ≡ undoWraps p (run p v)
-unfolding run_by wraps undoWraps
-wraps-turned end t r = refl
-wraps-turned {n} {v} (l ⨾ p) t r =
-    let (a, b) = and_yes (validLine n l) _ t in
+pub wraps_turned : {n : ℕ} {v : List ℤ} (p : Program) → T (valid n p) → Row n v → wraps p v ≡ undo_wraps p (run p v)
+unfolding run_by wraps undo_wraps
+wraps_turned end t r = refl
+wraps_turned {n} {v} (l ⨾ p) t r =
+    let (a, b) = and_yes (valid_line n l) _ t in
     let w = row_line l r in
-    rw (undo-run p b w, ← wraps-turned p b w, ← line-turned l a r) (or_comm (lineWraps l v) (wraps p (line l v)))
-wraps-turned {n} (reorder to back p) t r =
+    rw (undo-run p b w, ← wraps_turned p b w, ← line_turned l a r) (or_comm (line_wraps l v) (wraps p (line l v)))
+wraps_turned {n} (reorder to back p) t r =
     let (a, b) = and_yes (undoes n to back) _ t in
     let (c, d) = and_yes (undoes n back to) _ b in
-    wraps-turned p d (row-reorder back to c r)
-wraps-turned {n} {v} (apply o s ps p) t r =
+    wraps_turned p d (row-reorder back to c r)
+wraps_turned {n} {v} (apply o s ps p) t r =
     let (a, b) = and_yes (places n ps) _ t in
     let (c, d) = and_yes (valid (length ps) s) _ b in
     let g = row_get ps r in
     let y = row-run s c g in
     let w = row_put ps y r in
-    rw (undo-run p d w, ← wraps-turned p d w, get-put ps (run s (get ps v)) v a y.len r.len, ← wraps-turned s c g) (or_comm (wraps s (get ps v)) (wraps p (put ps (run s (get ps v)) v)))
+    rw (undo-run p d w, ← wraps_turned p d w, get-put ps (run s (get ps v)) v a y.len r.len, ← wraps_turned s c g) (or_comm (wraps s (get ps v)) (wraps p (put ps (run s (get ps v)) v)))
 
-pub undo-wraps-turned : {n : ℕ} {v : List ℤ} (p : Program) → T (valid n p) → Row n v → undoWraps p v ≡ wraps p (undo p v)
-undo-wraps-turned {n} {v} p t r = ap (undoWraps p) (sym (run-undo p t r)) ∙ sym (wraps-turned p t (row-undo p t r))
+pub undo_wraps_turned : {n : ℕ} {v : List ℤ} (p : Program) → T (valid n p) → Row n v → undo_wraps p v ≡ wraps p (undo p v)
+undo_wraps_turned {n} {v} p t r = ap (undo_wraps p) (sym (run-undo p t r)) ∙ sym (wraps_turned p t (row-undo p t r))

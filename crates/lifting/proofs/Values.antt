@@ -4,13 +4,13 @@ use mathlib.Core.Path.{◌≡◌, refl}
 use mathlib.Core.List.{[], ◌∷◌, map}
 use lib.IntN.{ℤ, pos, neg_ℤ}
 use Rattle.lifting.specs.Wrap.{wrap}
-use Rattle.lifting.specs.Program.{var, ◌⊕◌, ◌⊖◌, 3×, ◌≫◌, value, valueBy}
+use Rattle.lifting.specs.Program.{var, ◌⊕◌, ◌⊖◌, 3×, ◌≫◌, value, value_by}
 
 abbrev minus : ℕ → ℤ
 minus n = neg_ℤ (pos n)
 
-pub steps-give : map (λ e. value e (pos 2147483647 ∷ minus 5 ∷ []))
+pub steps_give : map (λ e. value e (pos 2147483647 ∷ minus 5 ∷ []))
     ((var 0 ⊕ pos 1) ∷ (var 0 ⊖ var 1) ∷ 3× (var 0) ∷ (var 1 ≫ 1) ∷ (var 1 ≫ 3) ∷ (var 0 ≫ 1) ∷ [])
     ≡ minus 2147483648 ∷ minus 2147483644 ∷ pos 2147483645 ∷ minus 3 ∷ minus 1 ∷ pos 1073741823 ∷ []
-unfolding wrap valueBy
-steps-give = refl
+unfolding wrap value_by
+steps_give = refl

@@ -3,8 +3,8 @@ use Rattle.std.specs.Prelude.{Bool, false, ◌||◌, List, ℤ}
 use Rattle.lifting.specs.Program.{Program, end, ◌⨾◌, reorder, apply, get}
 
 -- some use is judged so on the numbers that stand at its places in v: what other uses do is not looked at
-unfoldable pub anyUse : (Program → List ℤ → Bool) → Program → List ℤ → Bool
-anyUse judge end v = false
-anyUse judge (l ⨾ p) v = anyUse judge p v
-anyUse judge (reorder to back p) v = anyUse judge p v
-anyUse judge (apply o s ps p) v = judge s (get ps v) || anyUse judge p v
+unfoldable pub any_use : (Program → List ℤ → Bool) → Program → List ℤ → Bool
+any_use judge end v = false
+any_use judge (l ⨾ p) v = any_use judge p v
+any_use judge (reorder to back p) v = any_use judge p v
+any_use judge (apply o s ps p) v = judge s (get ps v) || any_use judge p v

@@ -40,19 +40,19 @@ abbrev pub at : List ℤ → ℕ → ℤ
 at v i = get_or v i (pos 0)
 
 -- with `reduce` for what becomes of every sum, difference and multiple of 3; >> rounds toward minus infinity
-unfoldable pub valueBy : (ℤ → ℤ) → Expr → List ℤ → ℤ
-valueBy reduce (var i) v = at v i
-valueBy reduce (e ⊕ k) v = reduce (valueBy reduce e v +ℤ k)
-valueBy reduce (e ⊖ f) v = reduce (valueBy reduce e v -ℤ valueBy reduce f v)
-valueBy reduce (3× e) v = reduce (pos 3 *ℤ valueBy reduce e v)
-valueBy reduce (e ≫ k) v = shr_z (valueBy reduce e v) (2 ^ k)
+unfoldable pub value_by : (ℤ → ℤ) → Expr → List ℤ → ℤ
+value_by reduce (var i) v = at v i
+value_by reduce (e ⊕ k) v = reduce (value_by reduce e v +ℤ k)
+value_by reduce (e ⊖ f) v = reduce (value_by reduce e v -ℤ value_by reduce f v)
+value_by reduce (3× e) v = reduce (pos 3 *ℤ value_by reduce e v)
+value_by reduce (e ≫ k) v = shr_z (value_by reduce e v) (2 ^ k)
 
-unfoldable pub lineBy : (ℤ → ℤ) → Line → List ℤ → List ℤ
-lineBy reduce (i += e) v = set v i (reduce (at v i +ℤ valueBy reduce e v))
-lineBy reduce (i -= e) v = set v i (reduce (at v i -ℤ valueBy reduce e v))
-lineBy reduce (i from e) v = set v i (reduce (valueBy reduce e v -ℤ at v i))
-lineBy reduce (neg i) v = set v i (reduce (neg_ℤ (at v i)))
-lineBy reduce (swap i j) v = set (set v i (at v j)) j (at v i)
+unfoldable pub line_by : (ℤ → ℤ) → Line → List ℤ → List ℤ
+line_by reduce (i += e) v = set v i (reduce (at v i +ℤ value_by reduce e v))
+line_by reduce (i -= e) v = set v i (reduce (at v i -ℤ value_by reduce e v))
+line_by reduce (i from e) v = set v i (reduce (value_by reduce e v -ℤ at v i))
+line_by reduce (neg i) v = set v i (reduce (neg_ℤ (at v i)))
+line_by reduce (swap i j) v = set (set v i (at v j)) j (at v i)
 
 -- the numbers at the places ps
 unfoldable pub get : List ℕ → List ℤ → List ℤ
@@ -66,7 +66,7 @@ put (p ∷ ps) xs v = put ps (drop 1 xs) (set v p (at xs 0))
 
 unfoldable pub run_by : (ℤ → ℤ) → Program → List ℤ → List ℤ
 run_by reduce end v = v
-run_by reduce (l ⨾ p) v = run_by reduce p (lineBy reduce l v)
+run_by reduce (l ⨾ p) v = run_by reduce p (line_by reduce l v)
 run_by reduce (reorder to back p) v = run_by reduce p (get back v)
 run_by reduce (apply o s ps p) v = run_by reduce p (put ps (run_by reduce s (get ps v)) v)
 
@@ -79,24 +79,24 @@ back (neg i) = neg i
 back (swap i j) = swap i j
 
 -- the same program undone, from its last line to its first
-unfoldable pub undoBy : (ℤ → ℤ) → Program → List ℤ → List ℤ
-undoBy reduce end v = v
-undoBy reduce (l ⨾ p) v = lineBy reduce (back l) (undoBy reduce p v)
-undoBy reduce (reorder to back p) v = get to (undoBy reduce p v)
-undoBy reduce (apply o s ps p) v = put ps (undoBy reduce s (get ps (undoBy reduce p v))) (undoBy reduce p v)
+unfoldable pub undo_by : (ℤ → ℤ) → Program → List ℤ → List ℤ
+undo_by reduce end v = v
+undo_by reduce (l ⨾ p) v = line_by reduce (back l) (undo_by reduce p v)
+undo_by reduce (reorder to back p) v = get to (undo_by reduce p v)
+undo_by reduce (apply o s ps p) v = put ps (undo_by reduce s (get ps (undo_by reduce p v))) (undo_by reduce p v)
 
 -- the steps of 01: each result reduced into the signed 32-bit range
 abbrev pub value : Expr → List ℤ → ℤ
-value = valueBy wrap
+value = value_by wrap
 
 abbrev pub line : Line → List ℤ → List ℤ
-line = lineBy wrap
+line = line_by wrap
 
 abbrev pub run : Program → List ℤ → List ℤ
 run = run_by wrap
 
 abbrev pub undo : Program → List ℤ → List ℤ
-undo = undoBy wrap
+undo = undo_by wrap
 
 -- one program and then another
 infixr 30 ◌then◌

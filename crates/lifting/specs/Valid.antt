@@ -13,21 +13,21 @@ without n i (e ≫ k) = without n i e
 abbrev update : ℕ → ℕ → Expr → Bool
 update n i e = ltb i n && without n i e
 
-abbrev pub validLine : ℕ → Line → Bool
-validLine n (i += e) = update n i e
-validLine n (i -= e) = update n i e
-validLine n (i from e) = update n i e
-validLine n (neg i) = ltb i n
-validLine n (swap i j) = ltb i n && (ltb j n && not (eqb i j))
+abbrev pub valid_line : ℕ → Line → Bool
+valid_line n (i += e) = update n i e
+valid_line n (i -= e) = update n i e
+valid_line n (i from e) = update n i e
+valid_line n (neg i) = ltb i n
+valid_line n (swap i j) = ltb i n && (ltb j n && not (eqb i j))
 
-abbrev pub notIn : ℕ → List ℕ → Bool
-notIn i [] = true
-notIn i (p ∷ ps) = not (eqb i p) && notIn i ps
+abbrev pub not_in : ℕ → List ℕ → Bool
+not_in i [] = true
+not_in i (p ∷ ps) = not (eqb i p) && not_in i ps
 
 -- different from each other, and below n
 abbrev pub places : ℕ → List ℕ → Bool
 places n [] = true
-places n (p ∷ ps) = ltb p n && (notIn p ps && places n ps)
+places n (p ∷ ps) = ltb p n && (not_in p ps && places n ps)
 
 -- i, i + 1, .., and m of them
 abbrev pub counts : ℕ → ℕ → List ℕ → Bool
@@ -42,6 +42,6 @@ undoes n ps qs = places (length qs) ps && counts 0 n (map (λ i. get_or qs i 0) 
 
 abbrev pub valid : ℕ → Program → Bool
 valid n end = true
-valid n (l ⨾ p) = validLine n l && valid n p
+valid n (l ⨾ p) = valid_line n l && valid n p
 valid n (reorder to back p) = undoes n to back && (undoes n back to && valid n p)
 valid n (apply o s ps p) = places n ps && (valid (length ps) s && valid n p)

@@ -2,9 +2,9 @@
 // whether a reduction changed a number. The plain form is the told one with nothing asked.
 ghost use Rattle.std.specs.Prelude.{◌≡◌, ◌&&◌, [], ◌∷◌};
 ghost use Rattle.lifting.specs.Program.{run, undo};
-ghost use Rattle.lifting.specs.Wraps.{wraps, undoWraps};
+ghost use Rattle.lifting.specs.Wraps.{wraps, undo_wraps};
 ghost use Rattle.figures.specs.Block.{list};
-ghost use Rattle.figures.specs.Figures.{rotation as rotationLines, scale as scaleLines, postHadamard as postHadamardLines, postOddOdd as postOddOddLines};
+ghost use Rattle.figures.specs.Figures.{rotation as rotationLines, scale as scaleLines, post_hadamard as postHadamardLines, post_odd_odd as postOddOddLines};
 
 use core_operators::steps::{rounded_told, scaled_told};
 use core_operators::transform::{odd_odd_rounded_told, undo_odd_odd_rounded_told};
@@ -40,7 +40,7 @@ pub fn rotation(a: i32, b: i32) -> Pair
 // Figure 4.9 undone
 pub fn undo_rotation_told(tell: bool, a: i32, b: i32) -> ToldPair
     ensures done { result.pair.a ∷ result.pair.b ∷ [] ≡ undo rotationLines (a ∷ b ∷ []) }
-    ensures told { result.wrapped ≡ tell && undoWraps rotationLines (a ∷ b ∷ []) }
+    ensures told { result.wrapped ≡ tell && undo_wraps rotationLines (a ∷ b ∷ []) }
 {
     let e1 = rounded_told(tell, a, 1, 1);
     let b1 = sub_told(tell, b, e1.value);
@@ -92,7 +92,7 @@ pub fn scale(a: i32, b: i32) -> Pair
 // Figure 4.10 undone
 pub fn undo_scale_told(tell: bool, a: i32, b: i32) -> ToldPair
     ensures done { result.pair.a ∷ result.pair.b ∷ [] ≡ undo scaleLines (a ∷ b ∷ []) }
-    ensures told { result.wrapped ≡ tell && undoWraps scaleLines (a ∷ b ∷ []) }
+    ensures told { result.wrapped ≡ tell && undo_wraps scaleLines (a ∷ b ∷ []) }
 {
     let e1 = scaled_told(tell, a, 0, 4);
     let b1 = sub_told(tell, b, e1.value);
@@ -161,7 +161,7 @@ pub fn post_hadamard(v: Four) -> Four
 // Figure 4.11 undone
 pub fn undo_post_hadamard_told(tell: bool, v: Four) -> ToldFour
     ensures done { list result.four ≡ undo postHadamardLines (list v) }
-    ensures told { result.wrapped ≡ tell && undoWraps postHadamardLines (list v) }
+    ensures told { result.wrapped ≡ tell && undo_wraps postHadamardLines (list v) }
 {
     let a = v.a;
     let b = v.b;
@@ -217,7 +217,7 @@ pub fn post_odd_odd(v: Four) -> Four
 // Figure 4.12 undone
 pub fn undo_post_odd_odd_told(tell: bool, v: Four) -> ToldFour
     ensures done { list result.four ≡ undo postOddOddLines (list v) }
-    ensures told { result.wrapped ≡ tell && undoWraps postOddOddLines (list v) }
+    ensures told { result.wrapped ≡ tell && undo_wraps postOddOddLines (list v) }
 {
     undo_odd_odd_rounded_told(tell, v, 6, 2)
 }

@@ -9,7 +9,7 @@ use native.Mathlib.Nat.{mul-le-mul}
 use lib.Dec.{T, ltb, eqb}
 use lib.IntN.{ℤ}
 use lib.ListN.{length}
-use borrow.Author.Tests.{ltb-false, le-ltb, eqb-true, not-false, le-leb, lt-leb, eq-eqb, ne_eqb}
+use borrow.Author.Tests.{ltb-false, le-ltb, eqb-true, not_false, le-leb, lt-leb, eq-eqb, ne_eqb}
 use Rattle.picture.specs.declared.mode.Mode.{Mode}
 use Rattle.picture.specs.declared.size.Size.{Size}
 use Rattle.picture.specs.declared.mode.ModeAnswer.{ModeAnswer}
@@ -17,11 +17,11 @@ use Rattle.picture.specs.declared.mode.ModeAnswer.TheVariants.{Known, Unknown}
 use Rattle.picture.specs.declared.checks.Checked.{Checked}
 use Rattle.picture.specs.declared.checks.Checked.TheVariants.{Ready, Refused}
 use Rattle.picture.specs.Sizes.{Sized, macroblocks, Shape}
-use Rattle.picture.specs.Refusals.{modeRange, widthRange, heightRange, dcLength, lowPassLength, highPassLength, samplesLength}
-use Rattle.picture.specs.Modes.{modeAnswer, modeNumber, mode_of, checked, checkedNumber}
+use Rattle.picture.specs.Refusals.{mode_range, width_range, height_range, dc_length, low_pass_length, high_pass_length, samples_length}
+use Rattle.picture.specs.Modes.{mode_answer, mode_number, mode_of, checked, checked_number}
 use Rattle.picture.specs.Planes.{Planes, Lengths}
-use Rattle.picture.specs.Numbers.{◌if◌, first_of, settled, unlike, outside, modeCheck, widthCheck, heightCheck, sizeChecks, shapeChecks, dcCheck, lowCheck, highCheck, lowChecks, planeChecks, sampleCheck}
-use Rattle.picture.proofs.NumberLaws.{refused-first, passed_first, both-pass, pass-both, settled-refused}
+use Rattle.picture.specs.Numbers.{◌if◌, first_of, settled, unlike, outside, mode_check, width_check, height_check, size_checks, shape_checks, dc_check, low_check, high_check, low_checks, plane_checks, sample_check}
+use Rattle.picture.proofs.NumberLaws.{refused-first, passed_first, both_pass, pass_both, settled-refused}
 
 -- the test of a single check that passes is false, and a false test passes
 pub passes : (k : ℕ) (b : Bool) → T (ltb 0 k) → first_of ((k if b) ∷ []) ≡ 0 → b ≡ false
@@ -32,9 +32,9 @@ passes (suc k) true t e = absurd (omega (arith, e))
 pub passing : (k : ℕ) (b : Bool) → b ≡ false → first_of ((k if b) ∷ []) ≡ 0
 passing k b e = rw e
 
-pub either-false : (a b : Bool) → a || b ≡ false → (a ≡ false) × (b ≡ false)
-either-false false b e = (refl, e)
-either-false true b e = absurd (yes e)
+pub either_false : (a b : Bool) → a || b ≡ false → (a ≡ false) × (b ≡ false)
+either_false false b e = (refl, e)
+either_false true b e = absurd (yes e)
   where
     yes : true ≡ false → ⊥
     yes e = let z : ◌≡◌ {A = ℕ} 0 1 = cc in omega arith
@@ -44,13 +44,13 @@ neither a b p q = rw (p, q)
 
 -- a number within its range, and a length as it is wanted
 pub within : (k most x : ℕ) → T (ltb 0 k) → first_of ((k if outside most x) ∷ []) ≡ 0 → (0 < x) × (x ≤ most)
-within k most x t e = let p = either-false (ltb x 1) (ltb most x) (passes k _ t e) in (ltb-false x 1 p.0, ltb-false most x p.1)
+within k most x t e = let p = either_false (ltb x 1) (ltb most x) (passes k _ t e) in (ltb-false x 1 p.0, ltb-false most x p.1)
 
 pub is_within : (k most x : ℕ) → 0 < x → x ≤ most → first_of ((k if outside most x) ∷ []) ≡ 0
 is_within k most x a b = passing k _ (neither _ _ (le-ltb x 1 a) (le-ltb most x b))
 
 pub like : (a b : ℕ) → unlike a b ≡ false → a ≡ b
-like a b e = eqb-true a b (not-false (eqb a b) e)
+like a b e = eqb-true a b (not_false (eqb a b) e)
 
 pub alike : (a b : ℕ) → a ≡ b → unlike a b ≡ false
 alike a b e = simp (eq-eqb a b e)
@@ -63,61 +63,61 @@ is-fit k a b e = passing k _ (alike a b e)
 
 -- ---- mode and size
 
-pub known-mode : (mode : ℕ) → first_of (modeCheck mode) ≡ 0 → mode ≤ 2
-known-mode mode e = case (dec_le mode 2)
+pub known_mode : (mode : ℕ) → first_of (mode_check mode) ≡ 0 → mode ≤ 2
+known_mode mode e = case (dec_le mode 2)
   where
     case : Dec (mode ≤ 2) → mode ≤ 2
     case (yes h) = h
     case (no n) = let f = rw (lt-leb mode 2 (omega (arith, n))) at e in absurd (omega (arith, f))
 
-pub mode-known : (mode : ℕ) → mode ≤ 2 → first_of (modeCheck mode) ≡ 0
-mode-known mode h = simp (le-leb mode 2 h)
+pub mode_known : (mode : ℕ) → mode ≤ 2 → first_of (mode_check mode) ≡ 0
+mode_known mode h = simp (le-leb mode 2 h)
 
-pub sized : (size : Size) → first_of (sizeChecks size) ≡ 0 → Sized size
+pub sized : (size : Size) → first_of (size_checks size) ≡ 0 → Sized size
 sized size e =
-    let (w, h) = both-pass (widthCheck size) (heightCheck size) e in
-    let (wide, most-wide) = within widthRange 525 size.width.0 tt w in
-    let (tall, most-tall) = within heightRange 413 size.height.0 tt h in
+    let (w, h) = both_pass (width_check size) (height_check size) e in
+    let (wide, most-wide) = within width_range 525 size.width.0 tt w in
+    let (tall, most-tall) = within height_range 413 size.height.0 tt h in
     record { wide = wide; most-wide = most-wide; tall = tall; most-tall = most-tall }
 
-pub size-passes : {size : Size} → Sized size → first_of (sizeChecks size) ≡ 0
+pub size-passes : {size : Size} → Sized size → first_of (size_checks size) ≡ 0
 size-passes {size} s =
-    pass-both (widthCheck size) (heightCheck size) (is_within widthRange 525 size.width.0 s.wide s.most-wide) (is_within heightRange 413 size.height.0 s.tall s.most-tall)
+    pass_both (width_check size) (height_check size) (is_within width_range 525 size.width.0 s.wide s.most-wide) (is_within height_range 413 size.height.0 s.tall s.most-tall)
 
-pub shaped : (mode : ℕ) (size : Size) → first_of (shapeChecks mode size) ≡ 0 → Shape mode size
-shaped mode size e = let (m, s) = both-pass (modeCheck mode) (sizeChecks size) e in record { known = known-mode mode m; sized = sized size s }
+pub shaped : (mode : ℕ) (size : Size) → first_of (shape_checks mode size) ≡ 0 → Shape mode size
+shaped mode size e = let (m, s) = both_pass (mode_check mode) (size_checks size) e in record { known = known_mode mode m; sized = sized size s }
 
-pub shape-passes : {mode : ℕ} {size : Size} → Shape mode size → first_of (shapeChecks mode size) ≡ 0
-shape-passes {mode} {size} f = pass-both (modeCheck mode) (sizeChecks size) (mode-known mode f.known) (size-passes f.sized)
+pub shape_passes : {mode : ℕ} {size : Size} → Shape mode size → first_of (shape_checks mode size) ≡ 0
+shape_passes {mode} {size} f = pass_both (mode_check mode) (size_checks size) (mode_known mode f.known) (size-passes f.sized)
 
 -- a picture has at most 525 * 413 macroblocks
 pub few : (W H : ℕ) → W ≤ 525 → H ≤ 413 → W * H ≤ 216825
 few W H a b = mul-le-mul a b
 
-pub few-macroblocks : {size : Size} → Sized size → macroblocks size ≤ 216825
-few-macroblocks {size} s = few size.width.0 size.height.0 s.most-wide s.most-tall
+pub few_macroblocks : {size : Size} → Sized size → macroblocks size ≤ 216825
+few_macroblocks {size} s = few size.width.0 size.height.0 s.most-wide s.most-tall
 
 -- ---- lengths
 
-pub low_fits : (n : ℕ) (dc low : List ℤ) → first_of (lowChecks n dc low) ≡ 0 → (length dc ≡ n) × (length low ≡ 15 * n)
+pub low_fits : (n : ℕ) (dc low : List ℤ) → first_of (low_checks n dc low) ≡ 0 → (length dc ≡ n) × (length low ≡ 15 * n)
 low_fits n dc low e =
-    let (d, l) = both-pass (dcCheck n dc) (lowCheck n low) e in
-    (fits dcLength (length dc) n tt d, fits lowPassLength (length low) (15 * n) tt l)
+    let (d, l) = both_pass (dc_check n dc) (low_check n low) e in
+    (fits dc_length (length dc) n tt d, fits low_pass_length (length low) (15 * n) tt l)
 
-pub planes-fit : (n : ℕ) (s : Planes) → first_of (planeChecks n s) ≡ 0 → Lengths n s
+pub planes-fit : (n : ℕ) (s : Planes) → first_of (plane_checks n s) ≡ 0 → Lengths n s
 planes-fit n s e =
-    let (l, h) = both-pass (lowChecks n s.dc s.low) (highCheck n s.high) e in
+    let (l, h) = both_pass (low_checks n s.dc s.low) (high_check n s.high) e in
     let (dc, low) = low_fits n s.dc s.low l in
-    record { dc = dc; low = low; high = fits highPassLength (length s.high) (240 * n) tt h }
+    record { dc = dc; low = low; high = fits high_pass_length (length s.high) (240 * n) tt h }
 
-pub fits-planes : (n : ℕ) (s : Planes) → Lengths n s → first_of (planeChecks n s) ≡ 0
+pub fits-planes : (n : ℕ) (s : Planes) → Lengths n s → first_of (plane_checks n s) ≡ 0
 fits-planes n s f =
-    pass-both (lowChecks n s.dc s.low) (highCheck n s.high)
-    (pass-both (dcCheck n s.dc) (lowCheck n s.low) (is-fit dcLength (length s.dc) n f.dc) (is-fit lowPassLength (length s.low) (15 * n) f.low))
-    (is-fit highPassLength (length s.high) (240 * n) f.high)
+    pass_both (low_checks n s.dc s.low) (high_check n s.high)
+    (pass_both (dc_check n s.dc) (low_check n s.low) (is-fit dc_length (length s.dc) n f.dc) (is-fit low_pass_length (length s.low) (15 * n) f.low))
+    (is-fit high_pass_length (length s.high) (240 * n) f.high)
 
-pub samples-fit : (n : ℕ) (samples : List ℤ) → first_of (sampleCheck n samples) ≡ 0 → length samples ≡ 256 * n
-samples-fit n samples e = fits samplesLength (length samples) (256 * n) tt e
+pub samples-fit : (n : ℕ) (samples : List ℤ) → first_of (sample_check n samples) ≡ 0 → length samples ≡ 256 * n
+samples-fit n samples e = fits samples_length (length samples) (256 * n) tt e
 
 -- ---- what checks answer
 
@@ -130,24 +130,24 @@ refused zero mode j e = absurd (let z : ◌≡◌ {A = ℕ} 0 1 = cc in omega ar
 refused (suc k) mode j e = let f : j ≡ suc k = cc in (f, λ z. omega (arith, f, z))
 
 -- an answer whose number is k is that of k
-pub answers : {r : Checked} {k : ℕ} (mode : ℕ) → (checkedNumber r ≡ k) × (r ≡ checked (checkedNumber r) mode) → r ≡ checked k mode
+pub answers : {r : Checked} {k : ℕ} (mode : ℕ) → (checked_number r ≡ k) × (r ≡ checked (checked_number r) mode) → r ≡ checked k mode
 answers {r} {k} mode e = e.1 ∙ ap (λ (j : ℕ). checked j mode) e.0
 
 -- the answer of checks of mode and size, by what the mode's number chooses
-abbrev shapeNumber : Size → ModeAnswer → ℕ
-shapeNumber size a = first_of ((modeNumber a ∷ []) ++ sizeChecks size)
+abbrev shape_number : Size → ModeAnswer → ℕ
+shape_number size a = first_of ((mode_number a ∷ []) ++ size_checks size)
 
-pub unknown-mode : (mode : ℕ) (size : Size) → Unknown ≡ modeAnswer mode → modeRange ≡ first_of (shapeChecks mode size)
-unknown-mode mode size e = ap (shapeNumber size) e
+pub unknown_mode : (mode : ℕ) (size : Size) → Unknown ≡ mode_answer mode → mode_range ≡ first_of (shape_checks mode size)
+unknown_mode mode size e = ap (shape_number size) e
 
-pub known-shape : (mode : ℕ) (size : Size) (m : Mode) → Known m ≡ modeAnswer mode → {k : ℕ} → k ≡ first_of (sizeChecks size) → k ≡ first_of (shapeChecks mode size)
-known-shape mode size m e f = f ∙ ap (shapeNumber size) e
+pub known_shape : (mode : ℕ) (size : Size) (m : Mode) → Known m ≡ mode_answer mode → {k : ℕ} → k ≡ first_of (size_checks size) → k ≡ first_of (shape_checks mode size)
+known_shape mode size m e f = f ∙ ap (shape_number size) e
 
 pub refused-is : (k mode : ℕ) → (k ≡ 0 → ⊥) → Refused k ≡ checked k mode
 refused-is zero mode h = absurd (h refl)
 refused-is (suc k) mode h = refl
 
-pub chosen : (mode : ℕ) (m : Mode) → Known m ≡ modeAnswer mode → m ≡ mode_of mode
+pub chosen : (mode : ℕ) (m : Mode) → Known m ≡ mode_answer mode → m ≡ mode_of mode
 chosen mode m e = case (dec_le mode 2)
   where
     case : Dec (mode ≤ 2) → m ≡ mode_of mode
@@ -170,8 +170,8 @@ counted checks e h = e ∙ ap (λ (k : ℕ). first_of (checks k)) h
 
 -- checks, and after them one of a slice's length, whose number is k
 module _ {A : Type 0} (checks : List ℕ) (k len want : ℕ) (result was : A) {r : ℕ} (e : r ≡ first_of checks) where
-  pub refused-before : (r ≡ 0 → ⊥) → (r ≡ first_of (checks ++ (k if unlike len want) ∷ [])) × (was ≡ settled r result was)
-  refused-before n = (refused-first checks ((k if unlike len want) ∷ []) e n, sym (settled-refused r result was n))
+  pub refused_before : (r ≡ 0 → ⊥) → (r ≡ first_of (checks ++ (k if unlike len want) ∷ [])) × (was ≡ settled r result was)
+  refused_before n = (refused-first checks ((k if unlike len want) ∷ []) e n, sym (settled-refused r result was n))
 
   pub refused-length : T (ltb 0 k) → r ≡ 0 → (len ≡ want → ⊥) → (k ≡ first_of (checks ++ (k if unlike len want) ∷ [])) × (was ≡ settled k result was)
   refused-length t z n =
@@ -182,18 +182,18 @@ module _ {A : Type 0} (checks : List ℕ) (k len want : ℕ) (result was : A) {r
   passed_length z h = sym (passed_first checks ((k if unlike len want) ∷ []) e z ∙ simp (eq-eqb len want h))
 
 module _ (mode : ℕ) (size : Size) (rest : List ℕ) where
-  pub refused-call : {A : Type 0} {j : ℕ} (result was : A) → Refused j ≡ checked (first_of (shapeChecks mode size)) mode → (j ≡ first_of (shapeChecks mode size ++ rest)) × (was ≡ settled j result was)
-  refused-call {A} {j} result was e =
-      let (f, n) = refused (first_of (shapeChecks mode size)) mode j e in
-      (refused-first (shapeChecks mode size) rest f n, sym (settled-refused j result was n))
+  pub refused_call : {A : Type 0} {j : ℕ} (result was : A) → Refused j ≡ checked (first_of (shape_checks mode size)) mode → (j ≡ first_of (shape_checks mode size ++ rest)) × (was ≡ settled j result was)
+  refused_call {A} {j} result was e =
+      let (f, n) = refused (first_of (shape_checks mode size)) mode j e in
+      (refused-first (shape_checks mode size) rest f n, sym (settled-refused j result was n))
 
-  module _ {m : Mode} (e : Ready m ≡ checked (first_of (shapeChecks mode size)) mode) where
-    pub ready-number : {r : ℕ} → r ≡ first_of rest → r ≡ first_of (shapeChecks mode size ++ rest)
-    ready-number f = f ∙ sym (passed_first (shapeChecks mode size) rest refl (ready (first_of (shapeChecks mode size)) mode m e).0)
+  module _ {m : Mode} (e : Ready m ≡ checked (first_of (shape_checks mode size)) mode) where
+    pub ready-number : {r : ℕ} → r ≡ first_of rest → r ≡ first_of (shape_checks mode size ++ rest)
+    ready-number f = f ∙ sym (passed_first (shape_checks mode size) rest refl (ready (first_of (shape_checks mode size)) mode m e).0)
 
     pub ready_call : {A : Type 0} (result : Mode → A) (was : A) {r : ℕ} {now : A} → r ≡ first_of rest → now ≡ settled r (result m) was
-        → (r ≡ first_of (shapeChecks mode size ++ rest)) × (now ≡ settled r (result (mode_of mode)) was)
-    ready_call result was {r} f g = (ready-number f, g ∙ ap (λ (k : Mode). settled r (result k) was) (ready (first_of (shapeChecks mode size)) mode m e).1)
+        → (r ≡ first_of (shape_checks mode size ++ rest)) × (now ≡ settled r (result (mode_of mode)) was)
+    ready_call result was {r} f g = (ready-number f, g ∙ ap (λ (k : Mode). settled r (result k) was) (ready (first_of (shape_checks mode size)) mode m e).1)
 
     pub ready-sized : Sized size
-    ready-sized = (shaped mode size (ready (first_of (shapeChecks mode size)) mode m e).0).sized
+    ready-sized = (shaped mode size (ready (first_of (shape_checks mode size)) mode m e).0).sized

@@ -16,18 +16,18 @@ passed_first (zero ∷ xs) ys e h = passed_first xs ys e h
 passed_first (suc k ∷ xs) ys e h = absurd (omega (arith, e, h))
 
 -- checks pass together if and only if those of each list do
-pub both-pass : (xs ys : List ℕ) → first_of (xs ++ ys) ≡ 0 → (first_of xs ≡ 0) × (first_of ys ≡ 0)
-both-pass [] ys e = (refl, e)
-both-pass (zero ∷ xs) ys e = both-pass xs ys e
-both-pass (suc k ∷ xs) ys e = absurd (omega (arith, e))
+pub both_pass : (xs ys : List ℕ) → first_of (xs ++ ys) ≡ 0 → (first_of xs ≡ 0) × (first_of ys ≡ 0)
+both_pass [] ys e = (refl, e)
+both_pass (zero ∷ xs) ys e = both_pass xs ys e
+both_pass (suc k ∷ xs) ys e = absurd (omega (arith, e))
 
-pub pass-both : (xs ys : List ℕ) → first_of xs ≡ 0 → first_of ys ≡ 0 → first_of (xs ++ ys) ≡ 0
-pass-both xs ys e f = passed_first xs ys refl e ∙ f
+pub pass_both : (xs ys : List ℕ) → first_of xs ≡ 0 → first_of ys ≡ 0 → first_of (xs ++ ys) ≡ 0
+pass_both xs ys e f = passed_first xs ys refl e ∙ f
 
-pub last-passed : (xs ys : List ℕ) → first_of ys ≡ 0 → first_of (xs ++ ys) ≡ first_of xs
-last-passed [] ys e = e
-last-passed (zero ∷ xs) ys e = last-passed xs ys e
-last-passed (suc k ∷ xs) ys e = refl
+pub last_passed : (xs ys : List ℕ) → first_of ys ≡ 0 → first_of (xs ++ ys) ≡ first_of xs
+last_passed [] ys e = e
+last_passed (zero ∷ xs) ys e = last_passed xs ys e
+last_passed (suc k ∷ xs) ys e = refl
 
 -- what is settled by a number that is 0, and by one that is not
 pub settled-done : {A : Type 0} (k : ℕ) (x y : A) → k ≡ 0 → settled k x y ≡ x

@@ -2,8 +2,8 @@
 use Rattle.std.specs.Prelude.{ℕ, zero, suc, ◌*◌, Bool, true, false, not, ◌||◌, List, [], ◌∷◌, ◌++◌, eqb, ltb, ℤ, length}
 use Rattle.picture.specs.declared.size.Size.{Size}
 use Rattle.picture.specs.Sizes.{macroblocks}
-use Rattle.picture.specs.Refusals.{widthRange, heightRange, dcLength, lowPassLength, highPassLength, samplesLength, viewLength}
-use Rattle.picture.specs.Modes.{modeAnswer, modeNumber}
+use Rattle.picture.specs.Refusals.{width_range, height_range, dc_length, low_pass_length, high_pass_length, samples_length, view_length}
+use Rattle.picture.specs.Modes.{mode_answer, mode_number}
 use Rattle.picture.specs.Planes.{Planes}
 
 -- a check: its number where the test fails it, and 0 where it passes
@@ -27,57 +27,57 @@ abbrev pub outside : ℕ → ℕ → Bool
 outside most x = ltb x 1 || ltb most x
 
 -- mode and size
-abbrev pub modeCheck : ℕ → List ℕ
-modeCheck mode = modeNumber (modeAnswer mode) ∷ []
+abbrev pub mode_check : ℕ → List ℕ
+mode_check mode = mode_number (mode_answer mode) ∷ []
 
-abbrev pub widthCheck : Size → List ℕ
-widthCheck size = (widthRange if outside 525 size.width.0) ∷ []
+abbrev pub width_check : Size → List ℕ
+width_check size = (width_range if outside 525 size.width.0) ∷ []
 
-abbrev pub heightCheck : Size → List ℕ
-heightCheck size = (heightRange if outside 413 size.height.0) ∷ []
+abbrev pub height_check : Size → List ℕ
+height_check size = (height_range if outside 413 size.height.0) ∷ []
 
-abbrev pub sizeChecks : Size → List ℕ
-sizeChecks size = widthCheck size ++ heightCheck size
+abbrev pub size_checks : Size → List ℕ
+size_checks size = width_check size ++ height_check size
 
-abbrev pub shapeChecks : ℕ → Size → List ℕ
-shapeChecks mode size = modeCheck mode ++ sizeChecks size
+abbrev pub shape_checks : ℕ → Size → List ℕ
+shape_checks mode size = mode_check mode ++ size_checks size
 
 -- lengths of slices, for n macroblocks
 abbrev pub unlike : ℕ → ℕ → Bool
 unlike length wanted = not (eqb length wanted)
 
-abbrev pub dcCheck : ℕ → List ℤ → List ℕ
-dcCheck n dc = (dcLength if unlike (length dc) n) ∷ []
+abbrev pub dc_check : ℕ → List ℤ → List ℕ
+dc_check n dc = (dc_length if unlike (length dc) n) ∷ []
 
-abbrev pub lowCheck : ℕ → List ℤ → List ℕ
-lowCheck n low = (lowPassLength if unlike (length low) (15 * n)) ∷ []
+abbrev pub low_check : ℕ → List ℤ → List ℕ
+low_check n low = (low_pass_length if unlike (length low) (15 * n)) ∷ []
 
-abbrev pub highCheck : ℕ → List ℤ → List ℕ
-highCheck n high = (highPassLength if unlike (length high) (240 * n)) ∷ []
+abbrev pub high_check : ℕ → List ℤ → List ℕ
+high_check n high = (high_pass_length if unlike (length high) (240 * n)) ∷ []
 
-abbrev pub lowChecks : ℕ → List ℤ → List ℤ → List ℕ
-lowChecks n dc low = dcCheck n dc ++ lowCheck n low
+abbrev pub low_checks : ℕ → List ℤ → List ℤ → List ℕ
+low_checks n dc low = dc_check n dc ++ low_check n low
 
-abbrev pub planeChecks : ℕ → Planes → List ℕ
-planeChecks n s = lowChecks n s.dc s.low ++ highCheck n s.high
+abbrev pub plane_checks : ℕ → Planes → List ℕ
+plane_checks n s = low_checks n s.dc s.low ++ high_check n s.high
 
-abbrev pub sampleCheck : ℕ → List ℤ → List ℕ
-sampleCheck n samples = (samplesLength if unlike (length samples) (256 * n)) ∷ []
+abbrev pub sample_check : ℕ → List ℤ → List ℕ
+sample_check n samples = (samples_length if unlike (length samples) (256 * n)) ∷ []
 
-abbrev pub viewCheck : ℕ → List ℤ → List ℕ
-viewCheck n view = (viewLength if unlike (length view) (16 * n)) ∷ []
+abbrev pub view_check : ℕ → List ℤ → List ℕ
+view_check n view = (view_length if unlike (length view) (16 * n)) ∷ []
 
 -- Inverse: 1 to 7
-unfoldable pub inverseNumber : ℕ → Size → Planes → List ℤ → ℕ
-inverseNumber mode size s samples =
-    first_of (shapeChecks mode size ++ planeChecks (macroblocks size) s ++ sampleCheck (macroblocks size) samples)
+unfoldable pub inverse_number : ℕ → Size → Planes → List ℤ → ℕ
+inverse_number mode size s samples =
+    first_of (shape_checks mode size ++ plane_checks (macroblocks size) s ++ sample_check (macroblocks size) samples)
 
 -- Forward: 1, 2, 3, 7, 4, 5, 6
-unfoldable pub forwardNumber : ℕ → Size → List ℤ → Planes → ℕ
-forwardNumber mode size samples s =
-    first_of (shapeChecks mode size ++ sampleCheck (macroblocks size) samples ++ planeChecks (macroblocks size) s)
+unfoldable pub forward_number : ℕ → Size → List ℤ → Planes → ℕ
+forward_number mode size samples s =
+    first_of (shape_checks mode size ++ sample_check (macroblocks size) samples ++ plane_checks (macroblocks size) s)
 
 -- Quarter view: 1 to 5, then 8
-unfoldable pub quarterNumber : ℕ → Size → List ℤ → List ℤ → List ℤ → ℕ
-quarterNumber mode size dc low view =
-    first_of (shapeChecks mode size ++ lowChecks (macroblocks size) dc low ++ viewCheck (macroblocks size) view)
+unfoldable pub quarter_number : ℕ → Size → List ℤ → List ℤ → List ℤ → ℕ
+quarter_number mode size dc low view =
+    first_of (shape_checks mode size ++ low_checks (macroblocks size) dc low ++ view_check (macroblocks size) view)

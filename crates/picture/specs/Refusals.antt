@@ -2,51 +2,51 @@
 use Rattle.std.specs.Prelude.{ℕ}
 
 -- mode above 2; W outside 1 to 525; H outside 1 to 413
-abbrev pub modeRange : ℕ
-modeRange = 1
+abbrev pub mode_range : ℕ
+mode_range = 1
 
-abbrev pub widthRange : ℕ
-widthRange = 2
+abbrev pub width_range : ℕ
+width_range = 2
 
-abbrev pub heightRange : ℕ
-heightRange = 3
+abbrev pub height_range : ℕ
+height_range = 3
 
 -- the length of a slice
-abbrev pub dcLength : ℕ
-dcLength = 4
+abbrev pub dc_length : ℕ
+dc_length = 4
 
-abbrev pub lowPassLength : ℕ
-lowPassLength = 5
+abbrev pub low_pass_length : ℕ
+low_pass_length = 5
 
-abbrev pub highPassLength : ℕ
-highPassLength = 6
+abbrev pub high_pass_length : ℕ
+high_pass_length = 6
 
-abbrev pub samplesLength : ℕ
-samplesLength = 7
+abbrev pub samples_length : ℕ
+samples_length = 7
 
-abbrev pub viewLength : ℕ
-viewLength = 8
+abbrev pub view_length : ℕ
+view_length = 8
 
 -- a plane file: fewer bytes than a header has; the last word not zero; an offset or the total not as laid down; another length than the total
-abbrev pub fileTooShort : ℕ
-fileTooShort = 9
+abbrev pub file_too_short : ℕ
+file_too_short = 9
 
-abbrev pub lastWord : ℕ
-lastWord = 10
+abbrev pub last_word : ℕ
+last_word = 10
 
 abbrev pub offsets : ℕ
 offsets = 11
 
-abbrev pub fileLength : ℕ
-fileLength = 12
+abbrev pub file_length : ℕ
+file_length = 12
 
 -- n above 16, in the program
-abbrev pub tooManyMacroblocks : ℕ
-tooManyMacroblocks = 13
+abbrev pub too_many_macroblocks : ℕ
+too_many_macroblocks = 13
 
 -- a step index above 255; a product outside the signed 32-bit range
-abbrev pub stepIndex : ℕ
-stepIndex = 14
+abbrev pub step_index : ℕ
+step_index = 14
 
 abbrev pub product : ℕ
 product = 15

@@ -1,7 +1,7 @@
 // The checks that the operations share: mode and size, and the lengths of planes.
 ghost use Rattle.std.specs.Prelude.{◌≡◌, ◌≤◌};
-ghost use Rattle.picture.specs.Modes.{checked, checkedNumber};
-ghost use Rattle.picture.specs.Numbers.{first_of, sizeChecks, shapeChecks, lowChecks, planeChecks, outside as outsideRange};
+ghost use Rattle.picture.specs.Modes.{checked, checked_number};
+ghost use Rattle.picture.specs.Numbers.{first_of, size_checks, shape_checks, low_checks, plane_checks, outside as outsideRange};
 ghost use Rattle.picture.specs.Planes.{planes};
 
 use crate::counts::Area;
@@ -29,7 +29,7 @@ fn outside(most: u32, x: u32) -> bool
 
 // The number of the first check of a size that fails, or 0.
 fn check_size(size: Size) -> u32
-    ensures { result ≡ first_of (sizeChecks size) }
+    ensures { result ≡ first_of (size_checks size) }
 {
     let width = size.width.0;
     if outside(525, width) {
@@ -44,8 +44,8 @@ fn check_size(size: Size) -> u32
 
 // Mode and size: the mode itself where both are permitted.
 pub fn check_shape(mode: u32, size: Size) -> Checked
-    ensures number { checkedNumber result ≡ first_of (shapeChecks mode size) }
-    ensures answer { result ≡ checked (checkedNumber result) mode }
+    ensures number { checked_number result ≡ first_of (shape_checks mode size) }
+    ensures answer { result ≡ checked (checked_number result) mode }
 {
     let ModeAnswer::Known(known) = Mode::from_number(mode) else {
         return Checked::Refused(MODE_RANGE);
@@ -60,7 +60,7 @@ pub fn check_shape(mode: u32, size: Size) -> Checked
 // The number of the first check that fails of the lengths of a DC and a low-pass plane of n macroblocks, or 0.
 pub fn check_low(n: Area, dc: &[i32], low: &[i32]) -> u32
     requires { n.0 ≤ 216825 }
-    ensures { result ≡ first_of (lowChecks n.0 dc.now low.now) }
+    ensures { result ≡ first_of (low_checks n.0 dc.now low.now) }
 {
     let n = n.0 as usize;
     if dc.len() != n {
@@ -75,7 +75,7 @@ pub fn check_low(n: Area, dc: &[i32], low: &[i32]) -> u32
 // Likewise of the lengths of all three planes.
 pub fn check_planes(n: Area, dc: &[i32], low: &[i32], high: &[i32]) -> u32
     requires { n.0 ≤ 216825 }
-    ensures { result ≡ first_of (planeChecks n.0 (planes dc.now low.now high.now)) }
+    ensures { result ≡ first_of (plane_checks n.0 (planes dc.now low.now high.now)) }
 {
     let first = check_low(n, dc, low);
     if first != 0 {

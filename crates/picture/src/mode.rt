@@ -1,6 +1,6 @@
 // The modes: each knows which of the two levels it filters.
 ghost use Rattle.std.specs.Prelude.{◌≡◌};
-ghost use Rattle.picture.specs.Modes.{modeAnswer};
+ghost use Rattle.picture.specs.Modes.{mode_answer};
 
 #[derive(Drop)]
 pub struct Mode {
@@ -32,7 +32,7 @@ impl Mode {
     };
 
     pub fn from_number(number: u32) -> ModeAnswer
-        ensures { result ≡ modeAnswer number }
+        ensures { result ≡ mode_answer number }
     {
         match number {
             0 => ModeAnswer::Known(Mode::UNFILTERED),

@@ -22,24 +22,24 @@ stored : (l : List ℕ) (i a b c d : ℕ) → i + 4 ≤ length l
     → set (set (set (set l i a) (i + 1) b) (i + 2) c) (i + 3) d ≡ take i l ++ (a ∷ b ∷ c ∷ d ∷ []) ++ drop (i + 4) l
 stored l i a b c d h = rw (add-one i, two i, three i) (sets-eq (a ∷ b ∷ c ∷ d ∷ []) l i h)
 
-pub word-stored : (l : List ℕ) (i x : ℕ) {a b c d : ℕ} → i + 4 ≤ length l
+pub word_stored : (l : List ℕ) (i x : ℕ) {a b c d : ℕ} → i + 4 ≤ length l
     → a ≡ x % 256 → b ≡ x / 256 % 256 → c ≡ x / 65536 % 256 → d ≡ x / 16777216 % 256
     → set (set (set (set l i a) (i + 1) b) (i + 2) c) (i + 3) d ≡ take i l ++ word x ++ drop (i + 4) l
-word-stored l i x h e f g k = rw (e, f, g, k) (stored l i _ _ _ _ h)
+word_stored l i x h e f g k = rw (e, f, g, k) (stored l i _ _ _ _ h)
 
 -- ---- one part after another
 
 drop_past : (xs ys : List ℕ) (n k : ℕ) → length xs ≡ n → drop (n + k) (xs ++ ys) ≡ drop k ys
 drop_past xs ys n k e = rw (← e) (drop-append-add xs ys k)
 
-pub then-more : (done vs b : List ℕ) (at k : ℕ) {b1 b2 : List ℕ} → length done ≡ at
+pub then_more : (done vs b : List ℕ) (at k : ℕ) {b1 b2 : List ℕ} → length done ≡ at
     → b1 ≡ done ++ drop at b → b2 ≡ take at b1 ++ vs ++ drop (at + k) b1 → b2 ≡ (done ++ vs) ++ drop (at + k) b
-then-more done vs b at k e p q =
+then_more done vs b at k e p q =
     q ∙ rw (p, take_at done (drop at b) at e, drop_past done (drop at b) at k e, drop-drop k at b)
 
 pub then_at : (done vs b : List ℕ) (at k next : ℕ) {b1 b2 : List ℕ} → length done ≡ at → at + k ≡ next
     → b1 ≡ done ++ drop at b → b2 ≡ take at b1 ++ vs ++ drop (at + k) b1 → b2 ≡ (done ++ vs) ++ drop next b
-then_at done vs b at k next e n p q = then-more done vs b at k e p q ∙ ap (λ (m : ℕ). (done ++ vs) ++ drop m b) n
+then_at done vs b at k next e n p q = then_more done vs b at k e p q ∙ ap (λ (m : ℕ). (done ++ vs) ++ drop m b) n
 
 -- ---- words one after another
 
@@ -75,7 +75,7 @@ pub one_written : (ws b : List ℕ) (at i x : ℕ) {b1 b2 : List ℕ} → i < le
     → Written ws b at b1 i → x ≡ get_or ws i 0
     → b2 ≡ take (at + 4 * i) b1 ++ word x ++ drop (at + 4 * i + 4) b1 → Written ws b at b2 (i + 1)
 one_written ws b at i x h fits w e q =
-    rw (next, words_more ws i h, ← e, ← append_assoc) (then-more (take at b ++ words (take i ws)) (word x) b (at + 4 * i) 4 long w q)
+    rw (next, words_more ws i h, ← e, ← append_assoc) (then_more (take at b ++ words (take i ws)) (word x) b (at + 4 * i) 4 long w q)
   where
     next : at + 4 * (i + 1) ≡ at + 4 * i + 4
     next = omega arith
@@ -103,7 +103,7 @@ pub number-written : (plane : List ℤ) (b : List ℕ) (at i x : ℕ) {b1 b2 : L
 number-written plane b at i x h fits w e q =
     one_written (map low32 plane) b at i x (omega (arith, length-map plane low32)) (omega (arith, length-map plane low32)) w (e ∙ sym (get_or-map low32 plane i (pos 0))) q
 
-pub plane-written : (plane : List ℤ) (b : List ℕ) (at i : ℕ) {b1 : List ℕ} → i ≡ length plane → Written (map low32 plane) b at b1 i
+pub plane_written : (plane : List ℤ) (b : List ℕ) (at i : ℕ) {b1 : List ℕ} → i ≡ length plane → Written (map low32 plane) b at b1 i
     → b1 ≡ take at b ++ numbers plane ++ drop (at + 4 * length plane) b
 unfolding numbers
-plane-written plane b at i e w = rw (← length-map plane low32) (all-written (map low32 plane) b at i (e ∙ sym (length-map plane low32)) w)
+plane_written plane b at i e w = rw (← length-map plane low32) (all-written (map low32 plane) b at i (e ∙ sym (length-map plane low32)) w)

@@ -11,7 +11,7 @@ use mir.Val.{SFits, of_z, to_z}
 use mir.Facts.{of_z-to_z}
 use mir.Syntax.{w32, w64}
 use Rattle.lifting.specs.Wrap.{low32, wrap}
-use Rattle.lifting.proofs.WrapLaws.{wrap-same, wrap-id, wrap-fits}
+use Rattle.lifting.proofs.WrapLaws.{wrap-same, wrap_id, wrap-fits}
 use Rattle.lifting.proofs.Bits.{Fit, high}
 
 pub low_small : (z : ℤ) → low32 z < 4294967296
@@ -48,7 +48,7 @@ wrap-word x h = let e : x % 4294967296 ≡ x = omega arith in ap (to_z w32) e
 -- ---- each undoes the other
 
 pub word_number : (x : ℤ) → SFits w32 x → wrap (pos (low32 x)) ≡ x
-word_number x f = wrap-same (pos (low32 x)) x (omega (arith, low_small x)) ∙ wrap-id f
+word_number x f = wrap-same (pos (low32 x)) x (omega (arith, low_small x)) ∙ wrap_id f
 
 low_bits : (x : ℤ) → SFits w32 x → low32 x ≡ of_z w32 x
 low_bits (pos n) f = let h = f.sfits in omega arith

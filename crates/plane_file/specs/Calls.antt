@@ -5,17 +5,17 @@ use Rattle.picture.specs.Numbers.{settled}
 use Rattle.picture.specs.Planes.{Planes}
 use Rattle.plane_file.specs.declared.header.Header.{Header}
 use Rattle.plane_file.specs.Header.{answer}
-use Rattle.plane_file.specs.Layout.{file, planesIn}
-use Rattle.plane_file.specs.Numbers.{countIn, headerNumber, loadNumber, saveNumber}
+use Rattle.plane_file.specs.Layout.{file, planes_in}
+use Rattle.plane_file.specs.Numbers.{count_in, header_number, load_number, save_number}
 
-abbrev pub headerAnswer : List ℕ → Header
-headerAnswer bytes = answer (headerNumber bytes) bytes
+abbrev pub header_answer : List ℕ → Header
+header_answer bytes = answer (header_number bytes) bytes
 
-abbrev pub loadAnswer : List ℕ → Planes → Header
-loadAnswer bytes was = answer (loadNumber bytes was) bytes
+abbrev pub load_answer : List ℕ → Planes → Header
+load_answer bytes was = answer (load_number bytes was) bytes
 
 abbrev pub loaded : List ℕ → Planes → Planes
-loaded bytes was = settled (loadNumber bytes was) (planesIn bytes (countIn bytes)) was
+loaded bytes was = settled (load_number bytes was) (planes_in bytes (count_in bytes)) was
 
 abbrev pub saved : ℕ → Size → Planes → List ℕ → List ℕ
-saved mode size s was = settled (saveNumber mode size s was) (file mode size s) was
+saved mode size s was = settled (save_number mode size s was) (file mode size s) was

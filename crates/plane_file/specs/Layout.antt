@@ -3,41 +3,41 @@ use Rattle.std.specs.Prelude.{ℕ, ◌+◌, ◌*◌, List, [], ◌∷◌, ◌++�
 use Rattle.picture.specs.declared.size.Size.{Size}
 use Rattle.picture.specs.Sizes.{macroblocks}
 use Rattle.picture.specs.Planes.{Planes, planes}
-use Rattle.plane_file.specs.Words.{words, numbers, numbersAt}
+use Rattle.plane_file.specs.Words.{words, numbers, numbers_at}
 
 -- the header's words
-abbrev pub headerLength : ℕ
-headerLength = 8
+abbrev pub header_length : ℕ
+header_length = 8
 
 -- the header's length in bytes; where each plane of a picture of n macroblocks starts; and the file's length
-abbrev pub headerBytes : ℕ
-headerBytes = 4 * headerLength
+abbrev pub header_bytes : ℕ
+header_bytes = 4 * header_length
 
-abbrev pub dcOffset : ℕ
-dcOffset = headerBytes
+abbrev pub dc_offset : ℕ
+dc_offset = header_bytes
 
-abbrev pub lowOffset : ℕ → ℕ
-lowOffset n = headerBytes + 4 * n
+abbrev pub low_offset : ℕ → ℕ
+low_offset n = header_bytes + 4 * n
 
-abbrev pub highOffset : ℕ → ℕ
-highOffset n = headerBytes + 64 * n
+abbrev pub high_offset : ℕ → ℕ
+high_offset n = header_bytes + 64 * n
 
 abbrev pub total : ℕ → ℕ
-total n = headerBytes + 1024 * n
+total n = header_bytes + 1024 * n
 
-abbrev pub headerWords : ℕ → Size → List ℕ
-headerWords mode size =
+abbrev pub header_words : ℕ → Size → List ℕ
+header_words mode size =
     let n = macroblocks size in
-    mode ∷ size.width.0 ∷ size.height.0 ∷ dcOffset ∷ lowOffset n ∷ highOffset n ∷ total n ∷ 0 ∷ []
+    mode ∷ size.width.0 ∷ size.height.0 ∷ dc_offset ∷ low_offset n ∷ high_offset n ∷ total n ∷ 0 ∷ []
 
 unfoldable pub header : ℕ → Size → List ℕ
-header mode size = words (headerWords mode size)
+header mode size = words (header_words mode size)
 
 -- the whole file
 unfoldable pub file : ℕ → Size → Planes → List ℕ
 file mode size s = header mode size ++ numbers s.dc ++ numbers s.low ++ numbers s.high
 
 -- the planes that stand in a file of n macroblocks
-abbrev pub planesIn : List ℕ → ℕ → Planes
-planesIn bytes n =
-    planes (numbersAt bytes dcOffset n) (numbersAt bytes (lowOffset n) (15 * n)) (numbersAt bytes (highOffset n) (240 * n))
+abbrev pub planes_in : List ℕ → ℕ → Planes
+planes_in bytes n =
+    planes (numbers_at bytes dc_offset n) (numbers_at bytes (low_offset n) (15 * n)) (numbers_at bytes (high_offset n) (240 * n))

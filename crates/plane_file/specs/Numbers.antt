@@ -2,58 +2,58 @@
 use Rattle.std.specs.Prelude.{ℕ, Bool, ◌||◌, List, [], ◌∷◌, ◌++◌, ltb, length}
 use Rattle.picture.specs.declared.size.Size.{Size}
 use Rattle.picture.specs.Sizes.{macroblocks}
-use Rattle.picture.specs.Refusals.{fileTooShort, lastWord, offsets, fileLength}
-use Rattle.picture.specs.Numbers.{◌if◌, first_of, unlike, shapeChecks, planeChecks}
+use Rattle.picture.specs.Refusals.{file_too_short, last_word, offsets, file_length}
+use Rattle.picture.specs.Numbers.{◌if◌, first_of, unlike, shape_checks, plane_checks}
 use Rattle.picture.specs.Planes.{Planes}
 use Rattle.plane_file.specs.declared.header.Words.{Words}
-use Rattle.plane_file.specs.Layout.{headerBytes, dcOffset, lowOffset, highOffset, total}
-use Rattle.plane_file.specs.Header.{size_of, sizeIn, words_of}
+use Rattle.plane_file.specs.Layout.{header_bytes, dc_offset, low_offset, high_offset, total}
+use Rattle.plane_file.specs.Header.{size_of, size_in, words_of}
 
 -- an offset or the total isn't as laid down for n macroblocks
 abbrev pub misplaced : ℕ → Words → Bool
-misplaced n w = unlike w.dc dcOffset || unlike w.low (lowOffset n) || unlike w.high (highOffset n) || unlike w.total (total n)
+misplaced n w = unlike w.dc dc_offset || unlike w.low (low_offset n) || unlike w.high (high_offset n) || unlike w.total (total n)
 
-abbrev pub lastCheck : Words → List ℕ
-lastCheck w = (lastWord if unlike w.last 0) ∷ []
+abbrev pub last_check : Words → List ℕ
+last_check w = (last_word if unlike w.last 0) ∷ []
 
-abbrev pub offsetsCheck : Words → List ℕ
-offsetsCheck w = (offsets if misplaced (macroblocks (size_of w.width w.height)) w) ∷ []
+abbrev pub offsets_check : Words → List ℕ
+offsets_check w = (offsets if misplaced (macroblocks (size_of w.width w.height)) w) ∷ []
 
-abbrev pub layoutChecks : Words → List ℕ
-layoutChecks w = lastCheck w ++ offsetsCheck w
+abbrev pub layout_checks : Words → List ℕ
+layout_checks w = last_check w ++ offsets_check w
 
 -- of the words alone: 1, 2, 3, 10, 11
-abbrev pub wordChecks : Words → List ℕ
-wordChecks w = shapeChecks w.mode (size_of w.width w.height) ++ layoutChecks w
+abbrev pub word_checks : Words → List ℕ
+word_checks w = shape_checks w.mode (size_of w.width w.height) ++ layout_checks w
 
 -- fewer bytes than a header has
-abbrev pub shortCheck : List ℕ → List ℕ
-shortCheck bytes = (fileTooShort if ltb (length bytes) headerBytes) ∷ []
+abbrev pub short_check : List ℕ → List ℕ
+short_check bytes = (file_too_short if ltb (length bytes) header_bytes) ∷ []
 
 -- 9, and then the words
-abbrev pub startChecks : List ℕ → List ℕ
-startChecks bytes = shortCheck bytes ++ wordChecks (words_of bytes)
+abbrev pub start_checks : List ℕ → List ℕ
+start_checks bytes = short_check bytes ++ word_checks (words_of bytes)
 
 -- not as many bytes as a file of n macroblocks has
-abbrev pub totalCheck : ℕ → ℕ → List ℕ
-totalCheck n bytes = (fileLength if unlike bytes (total n)) ∷ []
+abbrev pub total_check : ℕ → ℕ → List ℕ
+total_check n bytes = (file_length if unlike bytes (total n)) ∷ []
 
 -- W times H, as the header says them
-abbrev pub countIn : List ℕ → ℕ
-countIn bytes = macroblocks (sizeIn bytes)
+abbrev pub count_in : List ℕ → ℕ
+count_in bytes = macroblocks (size_in bytes)
 
-abbrev pub headerChecks : List ℕ → List ℕ
-headerChecks bytes = startChecks bytes ++ totalCheck (countIn bytes) (length bytes)
+abbrev pub header_checks : List ℕ → List ℕ
+header_checks bytes = start_checks bytes ++ total_check (count_in bytes) (length bytes)
 
 -- Header: 9, 1, 2, 3, 10, 11, 12
-unfoldable pub headerNumber : List ℕ → ℕ
-headerNumber bytes = first_of (headerChecks bytes)
+unfoldable pub header_number : List ℕ → ℕ
+header_number bytes = first_of (header_checks bytes)
 
 -- Load: as header, then 4, 5, 6
-unfoldable pub loadNumber : List ℕ → Planes → ℕ
-loadNumber bytes s = first_of (headerChecks bytes ++ planeChecks (countIn bytes) s)
+unfoldable pub load_number : List ℕ → Planes → ℕ
+load_number bytes s = first_of (header_checks bytes ++ plane_checks (count_in bytes) s)
 
 -- Save: 1 to 6, then 12
-unfoldable pub saveNumber : ℕ → Size → Planes → List ℕ → ℕ
-saveNumber mode size s bytes =
-    first_of (shapeChecks mode size ++ planeChecks (macroblocks size) s ++ totalCheck (macroblocks size) (length bytes))
+unfoldable pub save_number : ℕ → Size → Planes → List ℕ → ℕ
+save_number mode size s bytes =
+    first_of (shape_checks mode size ++ plane_checks (macroblocks size) s ++ total_check (macroblocks size) (length bytes))

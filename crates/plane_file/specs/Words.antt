@@ -19,17 +19,17 @@ numbers xs = words (map low32 xs)
 -- ---- read
 
 -- the word whose first byte is the one at `at`
-unfoldable pub wordAt : List ℕ → ℕ → ℕ
-wordAt bytes at = get_or bytes at 0 + 256 * get_or bytes (at + 1) 0 + 65536 * get_or bytes (at + 2) 0 + 16777216 * get_or bytes (at + 3) 0
+unfoldable pub word_at : List ℕ → ℕ → ℕ
+word_at bytes at = get_or bytes at 0 + 256 * get_or bytes (at + 1) 0 + 65536 * get_or bytes (at + 2) 0 + 16777216 * get_or bytes (at + 3) 0
 
 -- n words from `at` on, one after another
-abbrev pub wordsAt : List ℕ → ℕ → ℕ → List ℕ
-wordsAt bytes at zero = []
-wordsAt bytes at (suc n) = wordAt bytes at ∷ wordsAt bytes (at + 4) n
+abbrev pub words_at : List ℕ → ℕ → ℕ → List ℕ
+words_at bytes at zero = []
+words_at bytes at (suc n) = word_at bytes at ∷ words_at bytes (at + 4) n
 
 -- the signed number of 32 bits that the word at `at` stands for, and n of them from there on
 abbrev pub number_at : List ℕ → ℕ → ℤ
-number_at bytes at = wrap (pos (wordAt bytes at))
+number_at bytes at = wrap (pos (word_at bytes at))
 
-unfoldable pub numbersAt : List ℕ → ℕ → ℕ → List ℤ
-numbersAt bytes at n = table n (λ i. number_at bytes (at + 4 * i))
+unfoldable pub numbers_at : List ℕ → ℕ → ℕ → List ℤ
+numbers_at bytes at n = table n (λ i. number_at bytes (at + 4 * i))

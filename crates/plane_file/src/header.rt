@@ -1,9 +1,9 @@
 // The header of a plane file: its words, their checks and what they answer.
 ghost use Rattle.std.specs.Prelude.{◌≡◌, ◌≤◌};
 ghost use Rattle.picture.specs.Numbers.{first_of};
-ghost use Rattle.plane_file.specs.Header.{byName, size_of, headerOf, answer};
-ghost use Rattle.plane_file.specs.Calls.{headerAnswer};
-ghost use Rattle.plane_file.specs.Numbers.{misplaced as isMisplaced, wordChecks, startChecks};
+ghost use Rattle.plane_file.specs.Header.{by_name, size_of, header_of, answer};
+ghost use Rattle.plane_file.specs.Calls.{header_answer};
+ghost use Rattle.plane_file.specs.Numbers.{misplaced as isMisplaced, word_checks, start_checks};
 
 use crate::layout::{HEADER_BYTES, HEADER_WORDS, high_offset, low_offset, total_bytes};
 use crate::reader::read_words;
@@ -27,7 +27,7 @@ pub struct Words {
 
 // The words of a header by their names.
 fn named(words: [u32; HEADER_WORDS]) -> Words
-    ensures { result ≡ byName words }
+    ensures { result ≡ by_name words }
 {
     Words {
         mode: words[0],
@@ -63,7 +63,7 @@ pub struct Header {
 
 // What is answered with a number that is not 0: zeros in the place of mode and size.
 pub fn refused(number: u32) -> Header
-    ensures { result ≡ headerOf number 0 (size_of 0 0) }
+    ensures { result ≡ header_of number 0 (size_of 0 0) }
 {
     Header {
         number,
@@ -93,7 +93,7 @@ fn misplaced(n: Area, w: Words) -> bool
 
 // The number of the first check of the words that fails, or 0.
 pub fn check_words(w: Words) -> u32
-    ensures { result ≡ first_of (wordChecks w) }
+    ensures { result ≡ first_of (word_checks w) }
 {
     let size = w.size();
     let shape = check_shape(w.mode, size);
@@ -111,7 +111,7 @@ pub fn check_words(w: Words) -> u32
 
 // The header by its words alone: whether the bytes are as many as they say is not looked at.
 pub fn read_start(bytes: &[u8]) -> Header
-    ensures { result ≡ answer (first_of (startChecks bytes.now)) bytes.now }
+    ensures { result ≡ answer (first_of (start_checks bytes.now)) bytes.now }
 {
     if bytes.len() < HEADER_BYTES as usize {
         return refused(FILE_TOO_SHORT);
@@ -131,7 +131,7 @@ pub fn read_start(bytes: &[u8]) -> Header
 
 // The whole header: mode and size, or the number of the first check that fails.
 pub fn read_header(bytes: &[u8]) -> Header
-    ensures { result ≡ headerAnswer bytes.now }
+    ensures { result ≡ header_answer bytes.now }
 {
     let start = read_start(bytes);
     if start.number != 0 {

@@ -1,8 +1,8 @@
 // Loading: the planes of a plane file.
 ghost use Rattle.std.specs.Prelude.{◌≡◌, ◌+◌, ◌*◌, ◌≤◌, length};
-ghost use Rattle.plane_file.specs.Words.{numbersAt};
+ghost use Rattle.plane_file.specs.Words.{numbers_at};
 ghost use Rattle.picture.specs.Planes.{planes};
-ghost use Rattle.plane_file.specs.Calls.{loadAnswer, loaded};
+ghost use Rattle.plane_file.specs.Calls.{load_answer, loaded};
 
 use crate::header::{Header, read_header, refused};
 use crate::layout::{HEADER_BYTES, high_offset, low_offset};
@@ -12,7 +12,7 @@ use picture::checks::check_planes;
 // Fills a plane with the numbers from `at` on.
 fn load_plane(bytes: &[u8], at: usize, plane: &mut [i32])
     requires { at + 4 * length plane.old ≤ length bytes.now }
-    ensures { plane.new ≡ numbersAt bytes.now at (length plane.old) }
+    ensures { plane.new ≡ numbers_at bytes.now at (length plane.old) }
 {
     for i in 0..plane.len() {
         plane[i] = from_word(word_at(bytes, at + 4 * i));
@@ -21,7 +21,7 @@ fn load_plane(bytes: &[u8], at: usize, plane: &mut [i32])
 
 // The planes of a file, with its mode and size, or the number of the first check that fails.
 pub fn load(bytes: &[u8], dc: &mut [i32], low: &mut [i32], high: &mut [i32]) -> Header
-    ensures value { result ≡ loadAnswer bytes.now (planes dc.old low.old high.old) }
+    ensures value { result ≡ load_answer bytes.now (planes dc.old low.old high.old) }
     ensures high_after { planes dc.new low.new high.new ≡
         loaded bytes.now (planes dc.old low.old high.old) }
 {

@@ -1,7 +1,7 @@
 // A reader of words: the bytes of a file, and the place of the next word.
 ghost use Rattle.std.specs.Prelude.{◌≡◌, ◌+◌, ◌≤◌, length};
-ghost use Rattle.plane_file.specs.Words.{wordAt, wordsAt};
-ghost use Rattle.plane_file.specs.Layout.{headerBytes, headerLength};
+ghost use Rattle.plane_file.specs.Words.{word_at, words_at};
+ghost use Rattle.plane_file.specs.Layout.{header_bytes, header_length};
 
 use crate::layout::HEADER_WORDS;
 use crate::word::word_at;
@@ -16,7 +16,7 @@ impl<'a> WordReader<'a> {
     // The word at the reader's place.
     pub fn word(self) -> u32
         requires { self.at + 4 ≤ length self.bytes.now }
-        ensures { result ≡ wordAt self.entry.bytes.now self.entry.at }
+        ensures { result ≡ word_at self.entry.bytes.now self.entry.at }
     {
         word_at(self.bytes, self.at)
     }
@@ -35,8 +35,8 @@ impl<'a> WordReader<'a> {
 
 // The words of a header, one after another.
 pub fn read_words(bytes: &[u8]) -> [u32; HEADER_WORDS]
-    requires { headerBytes ≤ length bytes.now }
-    ensures { result ≡ wordsAt bytes.now 0 headerLength }
+    requires { header_bytes ≤ length bytes.now }
+    ensures { result ≡ words_at bytes.now 0 header_length }
 {
     let mut words = [0; HEADER_WORDS];
     let mut r = WordReader { bytes, at: 0 };

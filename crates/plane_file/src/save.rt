@@ -2,10 +2,10 @@
 ghost use Rattle.std.specs.Prelude.{◌≡◌, ◌++◌, ◌+◌, ◌*◌, ◌≤◌, length, take, drop};
 ghost use Rattle.picture.specs.Sizes.{Sized, macroblocks};
 ghost use Rattle.picture.specs.Planes.{Lengths, planes};
-ghost use Rattle.picture.specs.Numbers.{first_of, settled, planeChecks};
+ghost use Rattle.picture.specs.Numbers.{first_of, settled, plane_checks};
 ghost use Rattle.plane_file.specs.Words.{words, numbers};
-ghost use Rattle.plane_file.specs.Layout.{headerBytes, total, header, file};
-ghost use Rattle.plane_file.specs.Numbers.{totalCheck, saveNumber};
+ghost use Rattle.plane_file.specs.Layout.{header_bytes, total, header, file};
+ghost use Rattle.plane_file.specs.Numbers.{total_check, save_number};
 ghost use Rattle.plane_file.specs.Calls.{saved};
 
 use crate::layout::{HEADER_BYTES, high_offset, low_offset, total_bytes};
@@ -28,8 +28,8 @@ fn save_words(ws: &[u32], bytes: &mut [u8], at: usize)
 // Writes the header's words.
 fn save_header(mode: u32, size: Size, bytes: &mut [u8])
     requires sized { Sized size }
-    requires header_bytes_in_bounds { headerBytes ≤ length bytes.old }
-    ensures { bytes.new ≡ header mode size ++ drop headerBytes bytes.old }
+    requires header_bytes_in_bounds { header_bytes ≤ length bytes.old }
+    ensures { bytes.new ≡ header mode size ++ drop header_bytes bytes.old }
 {
     let n = size.macroblocks();
     let ws = [
@@ -74,7 +74,7 @@ fn save_file(mode: u32, size: Size, dc: &[i32], low: &[i32], high: &[i32], bytes
 fn save_sized(mode: u32, size: Size, dc: &[i32], low: &[i32], high: &[i32], bytes: &mut [u8]) -> u32
     requires { Sized size }
     ensures value { result ≡
-        first_of (planeChecks (macroblocks size) (planes dc.now low.now high.now) ++ totalCheck (macroblocks size) (length bytes.old)) }
+        first_of (plane_checks (macroblocks size) (planes dc.now low.now high.now) ++ total_check (macroblocks size) (length bytes.old)) }
     ensures bytes_after { bytes.new ≡ settled result (file mode size (planes dc.now low.now high.now)) bytes.old }
 {
     let n = size.macroblocks();
@@ -91,7 +91,7 @@ fn save_sized(mode: u32, size: Size, dc: &[i32], low: &[i32], high: &[i32], byte
 
 // A file of planes, or the number of the first check that fails.
 pub fn save(mode: u32, size: Size, dc: &[i32], low: &[i32], high: &[i32], bytes: &mut [u8]) -> u32
-    ensures value { result ≡ saveNumber mode size (planes dc.now low.now high.now) bytes.old }
+    ensures value { result ≡ save_number mode size (planes dc.now low.now high.now) bytes.old }
     ensures bytes_after { bytes.new ≡ saved mode size (planes dc.now low.now high.now) bytes.old }
 {
     match check_shape(mode, size) {

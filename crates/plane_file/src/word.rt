@@ -1,7 +1,7 @@
 // Words of four bytes, little-endian, and signed numbers as words in two's complement.
 ghost use Rattle.std.specs.Prelude.{◌≡◌, ◌++◌, ◌+◌, ◌*◌, ◌≤◌, ◌%◌, pos, length, take, drop};
 ghost use Rattle.lifting.specs.Wrap.{low32, wrap};
-ghost use Rattle.plane_file.specs.Words.{word, wordAt};
+ghost use Rattle.plane_file.specs.Words.{word, word_at};
 
 fn joined(a: u8, b: u8, c: u8, d: u8) -> u32
     ensures { result ≡ a + 256 * b + 65536 * c + 16777216 * d }
@@ -12,7 +12,7 @@ fn joined(a: u8, b: u8, c: u8, d: u8) -> u32
 // The word whose first byte is the one at `at`.
 pub fn word_at(bytes: &[u8], at: usize) -> u32
     requires { at + 4 ≤ length bytes.now }
-    ensures { result ≡ wordAt bytes.now at }
+    ensures { result ≡ word_at bytes.now at }
 {
     joined(bytes[at], bytes[at + 1], bytes[at + 2], bytes[at + 3])
 }

@@ -4,8 +4,8 @@ ghost use Rattle.picture.specs.Sizes.{Sized, macroblocks};
 ghost use Rattle.picture.specs.Planes.{planes};
 ghost use Rattle.picture.specs.Numbers.{first_of, settled};
 ghost use Rattle.bands.specs.Bands.{Indexed, SameLengths};
-ghost use Rattle.bands.specs.Numbers.{bandChecks};
-ghost use Rattle.quantise.specs.Quantise.{quantisedPlanes, quantiseNumber};
+ghost use Rattle.bands.specs.Numbers.{band_checks};
+ghost use Rattle.quantise.specs.Quantise.{quantised_planes, quantise_number};
 
 use bands::plane::quantise_plane;
 use bands::steps::{Steps, check_bands};
@@ -25,7 +25,7 @@ pub fn quantise_planes(
     requires indexed { Indexed steps }
     requires same_lengths { SameLengths (planes dc.now low.now high.now) (planes dc_levels.old low_levels.old high_levels.old) }
     ensures { planes dc_levels.new low_levels.new high_levels.new ≡
-        quantisedPlanes steps (planes dc.now low.now high.now) }
+        quantised_planes steps (planes dc.now low.now high.now) }
 {
     quantise_plane(steps.dc, dc, dc_levels);
     quantise_plane(steps.low, low, low_levels);
@@ -44,10 +44,10 @@ fn quantise_sized(
     high_levels: &mut [i32],
 ) -> u32
     requires { Sized size }
-    ensures value { result ≡ first_of (bandChecks (macroblocks size) steps (planes dc.now low.now high.now)
+    ensures value { result ≡ first_of (band_checks (macroblocks size) steps (planes dc.now low.now high.now)
         (planes dc_levels.old low_levels.old high_levels.old)) }
     ensures high_levels_after { planes dc_levels.new low_levels.new high_levels.new ≡
-        settled result (quantisedPlanes steps (planes dc.now low.now high.now))
+        settled result (quantised_planes steps (planes dc.now low.now high.now))
         (planes dc_levels.old low_levels.old high_levels.old) }
 {
     let n = size.macroblocks();
@@ -70,10 +70,10 @@ pub fn quantise(
     low_levels: &mut [i32],
     high_levels: &mut [i32],
 ) -> u32
-    ensures value { result ≡ quantiseNumber mode size steps (planes dc.now low.now high.now)
+    ensures value { result ≡ quantise_number mode size steps (planes dc.now low.now high.now)
         (planes dc_levels.old low_levels.old high_levels.old) }
     ensures high_levels_after { planes dc_levels.new low_levels.new high_levels.new ≡
-        settled result (quantisedPlanes steps (planes dc.now low.now high.now))
+        settled result (quantised_planes steps (planes dc.now low.now high.now))
         (planes dc_levels.old low_levels.old high_levels.old) }
 {
     match check_shape(mode, size) {

@@ -2,17 +2,17 @@
 use mathlib.Core.Path.{◌≡◌}
 use mathlib.Core.Bool.{false, ◌||◌}
 use Rattle.picture.specs.Planes.{Planes}
-use Rattle.picture.proofs.CheckLaws.{either-false}
-use Rattle.bands.specs.Bands.{anyOut}
-use Rattle.restore.specs.Restore.{anyOutOf}
+use Rattle.picture.proofs.CheckLaws.{either_false}
+use Rattle.bands.specs.Bands.{any_out}
+use Rattle.restore.specs.Restore.{any_out_of}
 
 pub record NoneOut (s : Planes) : Type 0 where
-  pub dc : anyOut s.dc ≡ false
-  pub low : anyOut s.low ≡ false
-  pub high : anyOut s.high ≡ false
+  pub dc : any_out s.dc ≡ false
+  pub low : any_out s.low ≡ false
+  pub high : any_out s.high ≡ false
 
-pub none_out : (s : Planes) → anyOutOf s ≡ false → NoneOut s
+pub none_out : (s : Planes) → any_out_of s ≡ false → NoneOut s
 none_out s e =
-    let p = either-false (anyOut s.dc) (anyOut s.low || anyOut s.high) e in
-    let q = either-false (anyOut s.low) (anyOut s.high) p.1 in
+    let p = either_false (any_out s.dc) (any_out s.low || any_out s.high) e in
+    let q = either_false (any_out s.low) (any_out s.high) p.1 in
     record { dc = p.0; low = q.0; high = q.1 }

@@ -4,7 +4,7 @@ ghost use Rattle.picture.specs.Sizes.{Sized, macroblocks};
 ghost use Rattle.picture.specs.Planes.{planes};
 ghost use Rattle.picture.specs.Numbers.{first_of, settled};
 ghost use Rattle.bands.specs.Bands.{Indexed, SameLengths};
-ghost use Rattle.restore.specs.Restore.{restoredPlanes, anyOutOf, restoreChecks, restoreNumber};
+ghost use Rattle.restore.specs.Restore.{restored_planes, any_out_of, restore_checks, restore_number};
 
 use bands::plane::{any_leaves_range, restore_plane};
 use bands::steps::{Steps, check_bands};
@@ -15,7 +15,7 @@ use picture::size::Size;
 // Whether a product of any band is outside the signed 32-bit range.
 pub fn products_leave_range(steps: Steps, dc: &[i32], low: &[i32], high: &[i32]) -> bool
     requires { Indexed steps }
-    ensures { result ≡ anyOutOf (restoredPlanes steps (planes dc.now low.now high.now)) }
+    ensures { result ≡ any_out_of (restored_planes steps (planes dc.now low.now high.now)) }
 {
     if any_leaves_range(steps.dc, dc) {
         return true;
@@ -37,10 +37,10 @@ pub fn restore_planes(
     high: &mut [i32],
 )
     requires indexed { Indexed steps }
-    requires high_levels_value { anyOutOf (restoredPlanes steps (planes dc_levels.now low_levels.now high_levels.now)) ≡ false }
+    requires high_levels_value { any_out_of (restored_planes steps (planes dc_levels.now low_levels.now high_levels.now)) ≡ false }
     requires same_lengths { SameLengths (planes dc_levels.now low_levels.now high_levels.now) (planes dc.old low.old high.old) }
     ensures { planes dc.new low.new high.new ≡
-        restoredPlanes steps (planes dc_levels.now low_levels.now high_levels.now) }
+        restored_planes steps (planes dc_levels.now low_levels.now high_levels.now) }
 {
     restore_plane(steps.dc, dc_levels, dc);
     restore_plane(steps.low, low_levels, low);
@@ -59,10 +59,10 @@ fn restore_sized(
     high: &mut [i32],
 ) -> u32
     requires { Sized size }
-    ensures value { result ≡ first_of (restoreChecks (macroblocks size) steps (planes dc_levels.now low_levels.now high_levels.now)
+    ensures value { result ≡ first_of (restore_checks (macroblocks size) steps (planes dc_levels.now low_levels.now high_levels.now)
         (planes dc.old low.old high.old)) }
     ensures high_after { planes dc.new low.new high.new ≡
-        settled result (restoredPlanes steps (planes dc_levels.now low_levels.now high_levels.now))
+        settled result (restored_planes steps (planes dc_levels.now low_levels.now high_levels.now))
         (planes dc.old low.old high.old) }
 {
     let n = size.macroblocks();
@@ -88,10 +88,10 @@ pub fn restore(
     low: &mut [i32],
     high: &mut [i32],
 ) -> u32
-    ensures value { result ≡ restoreNumber mode size steps (planes dc_levels.now low_levels.now high_levels.now)
+    ensures value { result ≡ restore_number mode size steps (planes dc_levels.now low_levels.now high_levels.now)
         (planes dc.old low.old high.old) }
     ensures high_after { planes dc.new low.new high.new ≡
-        settled result (restoredPlanes steps (planes dc_levels.now low_levels.now high_levels.now))
+        settled result (restored_planes steps (planes dc_levels.now low_levels.now high_levels.now))
         (planes dc.old low.old high.old) }
 {
     match check_shape(mode, size) {

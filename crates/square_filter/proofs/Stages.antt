@@ -5,51 +5,51 @@ use mathlib.Core.Bool.{true, ◌||◌, or_assoc}
 use mathlib.Core.List.{List}
 use lib.IntN.{ℤ, pos}
 use Rattle.lifting.specs.Program.{Program, Operator, Hadamard, PostHadamard, run, undo, get, put, ◌then◌}
-use Rattle.lifting.specs.Wraps.{wraps, undoWraps}
-use Rattle.lifting.proofs.Compose.{run-then, undo-then}
-use Rattle.lifting.proofs.NoWrap.{wraps-then, undo-wraps-then}
-use Rattle.lifting.proofs.Traces.{◌▸◌, at-end, ran, ◌◂◌, at-start, undone}
-use Rattle.figures.specs.Figures.{hadamard, postHadamard, squareFilter}
-use Rattle.figures.specs.Pieces.{mirroredStage, crossedStage}
-use Rattle.figures.proofs.Figures.{square-filter-stages}
+use Rattle.lifting.specs.Wraps.{wraps, undo_wraps}
+use Rattle.lifting.proofs.Compose.{run_then, undo_then}
+use Rattle.lifting.proofs.NoWrap.{wraps_then, undo_wraps_then}
+use Rattle.lifting.proofs.Traces.{◌▸◌, at-end, ran, ◌◂◌, at_start, undone}
+use Rattle.figures.specs.Figures.{hadamard, post_hadamard, square_filter}
+use Rattle.figures.specs.Pieces.{mirrored_stage, crossed_stage}
+use Rattle.figures.proofs.Figures.{square_filter_stages}
 use Rattle.blocks.specs.declared.Quads.{Quads}
-use Rattle.blocks.specs.Quads.{mirrored, OnEach, onAny}
+use Rattle.blocks.specs.Quads.{mirrored, OnEach, on_any}
 use Rattle.blocks.proofs.Blocks.{some_back}
 
 pub mirrored-run : (o : Operator) (s : Program) (v w : Quads) → OnEach (run s) v w
-    → (mirrored w ≡ run (mirroredStage o s) (mirrored v)) × (onAny (wraps s) v ≡ wraps (mirroredStage o s) (mirrored v))
-unfolding get put mirrored mirroredStage
-mirrored-run o s v w e = ran true (mirroredStage o s) _ refl ((e.p, refl) ▸ (e.q, refl) ▸ (e.r, refl) ▸ (e.s, refl) ▸ at-end)
+    → (mirrored w ≡ run (mirrored_stage o s) (mirrored v)) × (on_any (wraps s) v ≡ wraps (mirrored_stage o s) (mirrored v))
+unfolding get put mirrored mirrored_stage
+mirrored-run o s v w e = ran true (mirrored_stage o s) _ refl ((e.p, refl) ▸ (e.q, refl) ▸ (e.r, refl) ▸ (e.s, refl) ▸ at-end)
 
 pub mirrored-undo : (o : Operator) (s : Program) (v w : Quads) → OnEach (undo s) v w
-    → (mirrored w ≡ undo (mirroredStage o s) (mirrored v)) × (onAny (undoWraps s) v ≡ undoWraps (mirroredStage o s) (mirrored v))
-unfolding get put mirrored mirroredStage
+    → (mirrored w ≡ undo (mirrored_stage o s) (mirrored v)) × (on_any (undo_wraps s) v ≡ undo_wraps (mirrored_stage o s) (mirrored v))
+unfolding get put mirrored mirrored_stage
 mirrored-undo o s v w e =
-    let u = undone true (mirroredStage o s) _ refl (at-start ◂ (e.s, refl) ◂ (e.r, refl) ◂ (e.q, refl) ◂ (e.p, refl)) in
-    (u.0, some_back (undoWraps s) (undoWraps s) (undoWraps s) (undoWraps s) v ∙ u.1)
+    let u = undone true (mirrored_stage o s) _ refl (at_start ◂ (e.s, refl) ◂ (e.r, refl) ◂ (e.q, refl) ◂ (e.p, refl)) in
+    (u.0, some_back (undo_wraps s) (undo_wraps s) (undo_wraps s) (undo_wraps s) v ∙ u.1)
 
 abbrev pub first : Program
-first = mirroredStage Hadamard (hadamard (pos 0))
+first = mirrored_stage Hadamard (hadamard (pos 0))
 
 abbrev pub last : Program
-last = mirroredStage PostHadamard postHadamard
+last = mirrored_stage PostHadamard post_hadamard
 
-pub stages-run : (v : List ℤ) → run last (run crossedStage (run first v)) ≡ run squareFilter v
-stages-run v = sym (run-then crossedStage last (run first v)) ∙ sym (run-then first (crossedStage then last) v) ∙ ap (λ p. run p v) square-filter-stages
+pub stages_run : (v : List ℤ) → run last (run crossed_stage (run first v)) ≡ run square_filter v
+stages_run v = sym (run_then crossed_stage last (run first v)) ∙ sym (run_then first (crossed_stage then last) v) ∙ ap (λ p. run p v) square_filter_stages
 
-pub stages-undo : (v : List ℤ) → undo first (undo crossedStage (undo last v)) ≡ undo squareFilter v
-stages-undo v = ap (undo first) (sym (undo-then crossedStage last v)) ∙ sym (undo-then first (crossedStage then last) v) ∙ ap (λ p. undo p v) square-filter-stages
+pub stages_undo : (v : List ℤ) → undo first (undo crossed_stage (undo last v)) ≡ undo square_filter v
+stages_undo v = ap (undo first) (sym (undo_then crossed_stage last v)) ∙ sym (undo_then first (crossed_stage then last) v) ∙ ap (λ p. undo p v) square_filter_stages
 
-pub stages-wrap : (v : List ℤ) → wraps first v || wraps crossedStage (run first v) || wraps last (run crossedStage (run first v)) ≡ wraps squareFilter v
-stages-wrap v =
+pub stages_wrap : (v : List ℤ) → wraps first v || wraps crossed_stage (run first v) || wraps last (run crossed_stage (run first v)) ≡ wraps square_filter v
+stages_wrap v =
     or_assoc (wraps first v) _ _
-    ∙ ap (λ b. wraps first v || b) (sym (wraps-then crossedStage last (run first v)))
-    ∙ sym (wraps-then first (crossedStage then last) v)
-    ∙ ap (λ p. wraps p v) square-filter-stages
+    ∙ ap (λ b. wraps first v || b) (sym (wraps_then crossed_stage last (run first v)))
+    ∙ sym (wraps_then first (crossed_stage then last) v)
+    ∙ ap (λ p. wraps p v) square_filter_stages
 
-pub undo-stages-wrap : (v : List ℤ) → undoWraps last v || undoWraps crossedStage (undo last v) || undoWraps first (undo crossedStage (undo last v)) ≡ undoWraps squareFilter v
-undo-stages-wrap v =
-    ap (λ u. undoWraps last v || undoWraps crossedStage (undo last v) || undoWraps first u) (sym (undo-then crossedStage last v))
-    ∙ ap (λ b. b || undoWraps first (undo (crossedStage then last) v)) (sym (undo-wraps-then crossedStage last v))
-    ∙ sym (undo-wraps-then first (crossedStage then last) v)
-    ∙ ap (λ p. undoWraps p v) square-filter-stages
+pub undo_stages_wrap : (v : List ℤ) → undo_wraps last v || undo_wraps crossed_stage (undo last v) || undo_wraps first (undo crossed_stage (undo last v)) ≡ undo_wraps square_filter v
+undo_stages_wrap v =
+    ap (λ u. undo_wraps last v || undo_wraps crossed_stage (undo last v) || undo_wraps first u) (sym (undo_then crossed_stage last v))
+    ∙ ap (λ b. b || undo_wraps first (undo (crossed_stage then last) v)) (sym (undo_wraps_then crossed_stage last v))
+    ∙ sym (undo_wraps_then first (crossed_stage then last) v)
+    ∙ ap (λ p. undo_wraps p v) square_filter_stages

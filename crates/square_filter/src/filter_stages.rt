@@ -1,10 +1,10 @@
 // The stages of Figure 4.14 after its first, on mirrored fours: p is a d m p of the figure, q is b c n o, r is e h i l, s is f g j k.
 ghost use Rattle.std.specs.Prelude.{◌≡◌, ◌&&◌};
 ghost use Rattle.lifting.specs.Program.{run, undo};
-ghost use Rattle.lifting.specs.Wraps.{wraps, undoWraps};
-ghost use Rattle.figures.specs.Figures.{postHadamard as postHadamardLines};
-ghost use Rattle.figures.specs.Pieces.{crossedStage};
-ghost use Rattle.blocks.specs.Quads.{mirrored, OnEach, onAny};
+ghost use Rattle.lifting.specs.Wraps.{wraps, undo_wraps};
+ghost use Rattle.figures.specs.Figures.{post_hadamard as postHadamardLines};
+ghost use Rattle.figures.specs.Pieces.{crossed_stage};
+ghost use Rattle.blocks.specs.Quads.{mirrored, OnEach, on_any};
 
 use blocks::{Quads, ToldQuads};
 use figures::Four;
@@ -16,8 +16,8 @@ use overlap_operators::{
 
 // The rotations, Figure 4.12 and the scalings, which go across the fours
 pub fn crossed_told(tell: bool, v: Quads) -> ToldQuads
-    ensures done { mirrored result.quads ≡ run crossedStage (mirrored v) }
-    ensures told { result.wrapped ≡ tell && wraps crossedStage (mirrored v) }
+    ensures done { mirrored result.quads ≡ run crossed_stage (mirrored v) }
+    ensures told { result.wrapped ≡ tell && wraps crossed_stage (mirrored v) }
 {
     let admp = v.p;
     let bcno = v.q;
@@ -89,14 +89,14 @@ pub fn crossed_told(tell: bool, v: Quads) -> ToldQuads
 }
 
 pub fn crossed(v: Quads) -> Quads
-    ensures { mirrored result ≡ run crossedStage (mirrored v) }
+    ensures { mirrored result ≡ run crossed_stage (mirrored v) }
 {
     crossed_told(false, v).quads
 }
 
 // The same undone
 pub fn undo_crossed(v: Quads) -> Quads
-    ensures { mirrored result ≡ undo crossedStage (mirrored v) }
+    ensures { mirrored result ≡ undo crossed_stage (mirrored v) }
 {
     let admp = v.p;
     let bcno = v.q;
@@ -145,8 +145,8 @@ pub fn undo_crossed(v: Quads) -> Quads
 
 // The undoing told: a second text, because the plain one goes into its loop only as a text of its own
 pub fn undo_crossed_told(v: Quads) -> ToldQuads
-    ensures done { mirrored result.quads ≡ undo crossedStage (mirrored v) }
-    ensures told { result.wrapped ≡ undoWraps crossedStage (mirrored v) }
+    ensures done { mirrored result.quads ≡ undo crossed_stage (mirrored v) }
+    ensures told { result.wrapped ≡ undo_wraps crossed_stage (mirrored v) }
 {
     let admp = v.p;
     let bcno = v.q;
@@ -220,7 +220,7 @@ pub fn undo_crossed_told(v: Quads) -> ToldQuads
 // Figure 4.11 on each four
 pub fn post_hadamards_told(tell: bool, v: Quads) -> ToldQuads
     ensures done { OnEach (run postHadamardLines) v result.quads }
-    ensures told { result.wrapped ≡ tell && onAny (wraps postHadamardLines) v }
+    ensures told { result.wrapped ≡ tell && on_any (wraps postHadamardLines) v }
 {
     let p_told = post_hadamard_told(tell, v.p);
     let q_told = post_hadamard_told(tell, v.q);
@@ -246,7 +246,7 @@ pub fn post_hadamards(v: Quads) -> Quads
 // The same undone
 pub fn undo_post_hadamards_told(tell: bool, v: Quads) -> ToldQuads
     ensures done { OnEach (undo postHadamardLines) v result.quads }
-    ensures told { result.wrapped ≡ tell && onAny (undoWraps postHadamardLines) v }
+    ensures told { result.wrapped ≡ tell && on_any (undo_wraps postHadamardLines) v }
 {
     let s_told = undo_post_hadamard_told(tell, v.s);
     let r_told = undo_post_hadamard_told(tell, v.r);

@@ -3,10 +3,10 @@ mod filter_stages; // filter_stages.rt: the stages of Figure 4.14 after its firs
 
 ghost use Rattle.std.specs.Prelude.{◌≡◌, pos};
 ghost use Rattle.lifting.specs.Program.{Hadamard, PostHadamard, run, undo};
-ghost use Rattle.lifting.specs.Wraps.{wraps, undoWraps};
+ghost use Rattle.lifting.specs.Wraps.{wraps, undo_wraps};
 ghost use Rattle.figures.specs.Block.{flat};
-ghost use Rattle.figures.specs.Figures.{squareFilter as squareFilterLines, hadamard as hadamardLines, postHadamard as postHadamardLines};
-ghost use Rattle.figures.specs.Pieces.{mirroredStage, crossedStage};
+ghost use Rattle.figures.specs.Figures.{square_filter as squareFilterLines, hadamard as hadamardLines, post_hadamard as postHadamardLines};
+ghost use Rattle.figures.specs.Pieces.{mirrored_stage, crossed_stage};
 
 use crate::filter_stages::{
     crossed, crossed_told, post_hadamards, post_hadamards_told, undo_crossed, undo_crossed_told,
@@ -17,32 +17,32 @@ use blocks::{mirrored, split};
 
 // The stages take and give blocks; inside, a block is four fours.
 fn first_stage(b: [[i32; 4]; 4]) -> [[i32; 4]; 4]
-    ensures done { flat result ≡ run (mirroredStage Hadamard (hadamardLines (pos 0))) (flat b) }
-    ensures undone { flat result ≡ undo (mirroredStage Hadamard (hadamardLines (pos 0))) (flat b) }
+    ensures done { flat result ≡ run (mirrored_stage Hadamard (hadamardLines (pos 0))) (flat b) }
+    ensures undone { flat result ≡ undo (mirrored_stage Hadamard (hadamardLines (pos 0))) (flat b) }
 {
     mirrored(hadamards(split(b)))
 }
 
 fn crossed_stage(b: [[i32; 4]; 4]) -> [[i32; 4]; 4]
-    ensures { flat result ≡ run crossedStage (flat b) }
+    ensures { flat result ≡ run crossed_stage (flat b) }
 {
     mirrored(crossed(split(b)))
 }
 
 fn last_stage(b: [[i32; 4]; 4]) -> [[i32; 4]; 4]
-    ensures { flat result ≡ run (mirroredStage PostHadamard postHadamardLines) (flat b) }
+    ensures { flat result ≡ run (mirrored_stage PostHadamard postHadamardLines) (flat b) }
 {
     mirrored(post_hadamards(split(b)))
 }
 
 fn undo_crossed_stage(b: [[i32; 4]; 4]) -> [[i32; 4]; 4]
-    ensures { flat result ≡ undo crossedStage (flat b) }
+    ensures { flat result ≡ undo crossed_stage (flat b) }
 {
     mirrored(undo_crossed(split(b)))
 }
 
 fn undo_last_stage(b: [[i32; 4]; 4]) -> [[i32; 4]; 4]
-    ensures { flat result ≡ undo (mirroredStage PostHadamard postHadamardLines) (flat b) }
+    ensures { flat result ≡ undo (mirrored_stage PostHadamard postHadamardLines) (flat b) }
 {
     mirrored(undo_post_hadamards(split(b)))
 }
@@ -73,7 +73,7 @@ pub fn square_filter_wraps(b: [[i32; 4]; 4]) -> bool
 
 // And in Figure 4.14 undone
 pub fn undo_square_filter_wraps(b: [[i32; 4]; 4]) -> bool
-    ensures { result ≡ undoWraps squareFilterLines (flat b) }
+    ensures { result ≡ undo_wraps squareFilterLines (flat b) }
 {
     let first = undo_post_hadamards_told(true, split(b));
     let second = undo_crossed_told(first.quads);

@@ -12,9 +12,9 @@ use mir.Syntax.{w32}
 use Rattle.step_sizes.specs.Steps.{step_of}
 use Rattle.step_sizes.specs.Levels.{quantised, restored}
 use Rattle.step_sizes.specs.Claims.{Rounds, StepClaim}
-use Rattle.step_sizes.proofs.Reciprocal.{every-step-works}
+use Rattle.step_sizes.proofs.Reciprocal.{every_step_works}
 use Rattle.step_sizes.proofs.Rounding.{level-most, level-low, level-high, level-again}
-use Rattle.step_sizes.proofs.Signs.{sign_fits, neg-times}
+use Rattle.step_sizes.proofs.Signs.{sign_fits, neg_times}
 
 -- ---- how far two numbers are apart
 
@@ -22,12 +22,12 @@ apart : (a b h : ℕ) (t : Bool) → ltb a b ≡ t → a ≤ b + h → b ≤ a +
 apart a b h true e p q = omega (arith, ltb-true a b e)
 apart a b h false e p q = omega (arith, ltb-false a b e)
 
-pos-apart : (a b h : ℕ) → a ≤ b + h → b ≤ a + h → nat_abs (pos a -ℤ pos b) ≤ h
-pos-apart a zero h p q = omega arith
-pos-apart a (suc b) h p q = apart a (suc b) h (ltb a (suc b)) refl p q
+pos_apart : (a b h : ℕ) → a ≤ b + h → b ≤ a + h → nat_abs (pos a -ℤ pos b) ≤ h
+pos_apart a zero h p q = omega arith
+pos_apart a (suc b) h p q = apart a (suc b) h (ltb a (suc b)) refl p q
 
-neg-apart : (n b h : ℕ) → suc n ≤ b + h → b ≤ suc n + h → nat_abs (negsuc n -ℤ neg_ℤ (pos b)) ≤ h
-neg-apart n b h p q = rw (neg_ℤ-neg_ℤ (pos b)) (apart b (suc n) h (ltb b (suc n)) refl q p)
+neg_apart : (n b h : ℕ) → suc n ≤ b + h → b ≤ suc n + h → nat_abs (negsuc n -ℤ neg_ℤ (pos b)) ≤ h
+neg_apart n b h p q = rw (neg_ℤ-neg_ℤ (pos b)) (apart b (suc n) h (ltb b (suc n)) refl q p)
 
 -- ---- negative numbers
 
@@ -48,10 +48,10 @@ level-fits step h x f = sign_fits x ((nat_abs x + step / 2) / step) f (level-mos
 
 near : (step : ℕ) → 0 < step → (x : ℤ) → nat_abs (x -ℤ restored step (quantised step x)) ≤ step / 2
 unfolding quantised
-near step h (pos m) = pos-apart m ((m + step / 2) / step * step) (step / 2) (level-low step m h) (level-high step m)
+near step h (pos m) = pos_apart m ((m + step / 2) / step * step) (step / 2) (level-low step m h) (level-high step m)
 near step h (negsuc n) =
-    rw (neg-times ((suc n + step / 2) / step) step)
-    (neg-apart n ((suc n + step / 2) / step * step) (step / 2) (level-low step (suc n) h) (level-high step (suc n)))
+    rw (neg_times ((suc n + step / 2) / step) step)
+    (neg_apart n ((suc n + step / 2) / step * step) (step / 2) (level-low step (suc n) h) (level-high step (suc n)))
 
 again : (step : ℕ) → 0 < step → (level : ℤ) → quantised step (restored step level) ≡ level
 unfolding quantised
@@ -65,8 +65,8 @@ restored-one : (x : ℤ) → restored 1 x ≡ x
 unfolding one
 restored-one x = *ℤ-one x
 
-pub step-claim : StepClaim
-step-claim = record {
-  rounds = λ index h. rounds (step_of index) (every-step-works index h).positive;
+pub step_claim : StepClaim
+step_claim = record {
+  rounds = λ index h. rounds (step_of index) (every_step_works index h).positive;
   kept = λ x. (ap (quantised 1) (sym (restored-one x)) ∙ again 1 (omega arith) x, restored-one x);
 }

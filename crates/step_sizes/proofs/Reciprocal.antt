@@ -10,7 +10,7 @@ use lib.Dec.{T, lit<, ltb, leb, ltb→lt, leb→le}
 use lib.Count.{count_leading_zeros}
 use mir.Facts.{and_yes}
 use Rattle.lifting.proofs.Tests.{all-at}
-use Rattle.step_sizes.specs.Steps.{step_of, largestStep}
+use Rattle.step_sizes.specs.Steps.{step_of, largest_step}
 
 -- m * d is P and a rest e, and n * e is below P: n * m / P is n / d
 module _ (d m P e n : ℕ) (positive : 0 < d) (product : m * d ≡ P + e) (small : n * e < P) where
@@ -38,24 +38,24 @@ wide-product {a} {b} h k = lt_of_le_of_lt (mul-le-mul {n₁ = a} {m₁ = b} {n�
 abbrev pub shift_of : ℕ → ℕ
 shift_of d = 63 - count_leading_zeros 32 (d - 1)
 
-abbrev pub powerOf : ℕ → ℕ
-powerOf d = 1 * 2 ^ shift_of d % 2 ^ 64
+abbrev pub power_of : ℕ → ℕ
+power_of d = 1 * 2 ^ shift_of d % 2 ^ 64
 
-abbrev pub multiplierOf : ℕ → ℕ
-multiplierOf d = (powerOf d + d - 1) / d
+abbrev pub multiplier_of : ℕ → ℕ
+multiplier_of d = (power_of d + d - 1) / d
 
 -- the rest that is left of the multiplier's product with d
 abbrev rest_of : ℕ → ℕ
-rest_of d = multiplierOf d * d - 2 ^ shift_of d
+rest_of d = multiplier_of d * d - 2 ^ shift_of d
 
 -- what the code asks of them, and what a reciprocal does: the rest stays below 2^shift for the largest magnitude with half a step added
 pub record Works (d : ℕ) : Type 0 where
   pub positive : 0 < d
-  pub small : d ≤ largestStep
+  pub small : d ≤ largest_step
   pub shift : shift_of d < 64
-  pub wide : powerOf d + d < 2 ^ 64
-  pub multiplier : multiplierOf d < 2 ^ 32
-  pub least : 2 ^ shift_of d ≤ multiplierOf d * d
+  pub wide : power_of d + d < 2 ^ 64
+  pub multiplier : multiplier_of d < 2 ^ 32
+  pub least : 2 ^ shift_of d ≤ multiplier_of d * d
   pub rest : (2147483648 + d / 2) * rest_of d < 2 ^ shift_of d
 
 -- several tests at once
@@ -73,8 +73,8 @@ each_of (b ∷ tests) t = let p = and_yes b (together tests) t in (p.0, each_of 
 
 tests : ℕ → List Bool
 tests d =
-    ltb 0 d ∷ leb d largestStep ∷ ltb (shift_of d) 64 ∷ ltb (powerOf d + d) (2 ^ 64)
-    ∷ ltb (multiplierOf d) (2 ^ 32) ∷ leb (2 ^ shift_of d) (multiplierOf d * d) ∷ ltb ((2147483648 + d / 2) * rest_of d) (2 ^ shift_of d) ∷ []
+    ltb 0 d ∷ leb d largest_step ∷ ltb (shift_of d) 64 ∷ ltb (power_of d + d) (2 ^ 64)
+    ∷ ltb (multiplier_of d) (2 ^ 32) ∷ leb (2 ^ shift_of d) (multiplier_of d * d) ∷ ltb ((2147483648 + d / 2) * rest_of d) (2 ^ shift_of d) ∷ []
 
 at-step : (d : ℕ) → T (together (tests d)) → Works d
 unfolding tests
@@ -90,10 +90,10 @@ at-step d t =
       rest = ltb→lt _ _ h;
     }
 
-pub every-step-works : (index : ℕ) → index ≤ 255 → Works (step_of index)
+pub every_step_works : (index : ℕ) → index ≤ 255 → Works (step_of index)
 unfolding tests step_of count_leading_zeros
-every-step-works index h = at-step (step_of index) (all-at 256 (λ (i : ℕ). together (tests (step_of i))) tt index (omega arith))
+every_step_works index h = at-step (step_of index) (all-at 256 (λ (i : ℕ). together (tests (step_of i))) tt index (omega arith))
 
-pub divides : (d n : ℕ) → Works d → n ≤ 2147483648 + d / 2 → n * multiplierOf d / 2 ^ shift_of d ≡ n / d
+pub divides : (d n : ℕ) → Works d → n ≤ 2147483648 + d / 2 → n * multiplier_of d / 2 ^ shift_of d ≡ n / d
 divides d n w h =
-    reciprocal d (multiplierOf d) (2 ^ shift_of d) (rest_of d) n w.positive (omega (arith, w.least)) (lt_of_le_of_lt (mul-le-mul_right (rest_of d) h) w.rest)
+    reciprocal d (multiplier_of d) (2 ^ shift_of d) (rest_of d) n w.positive (omega (arith, w.least)) (lt_of_le_of_lt (mul-le-mul_right (rest_of d) h) w.rest)

@@ -1,10 +1,10 @@
 -- Values that compute: steps at the ends of the rule's three parts, and numbers at the ends of the range and around half a step.
 use mathlib.Core.Path.{◌≡◌, refl}
 use lib.IntN.{pos, negsuc}
-use Rattle.step_sizes.specs.Steps.{step_of, largestStep, stepAnswer}
+use Rattle.step_sizes.specs.Steps.{step_of, largest_step, step_answer}
 use Rattle.step_sizes.specs.Levels.{quantised}
 
-steps : (step_of 0 ≡ 1) × (step_of 1 ≡ 1) × (step_of 15 ≡ 15) × (step_of 16 ≡ 16) × (step_of 31 ≡ 31) × (step_of 32 ≡ 32) × (step_of 33 ≡ 34) × (step_of 255 ≡ largestStep) × (stepAnswer 256 ≡ 0)
+steps : (step_of 0 ≡ 1) × (step_of 1 ≡ 1) × (step_of 15 ≡ 15) × (step_of 16 ≡ 16) × (step_of 31 ≡ 31) × (step_of 32 ≡ 32) × (step_of 33 ≡ 34) × (step_of 255 ≡ largest_step) × (step_answer 256 ≡ 0)
 unfolding step_of
 steps = (refl, refl, refl, refl, refl, refl, refl, refl, refl)
 

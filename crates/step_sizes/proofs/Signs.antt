@@ -11,24 +11,24 @@ use lib.Signed.{lt_z}
 use mir.Val.{SFits, to_z, of_z}
 use mir.Syntax.{w32}
 use mir.ValLaws.{to_z-of_z}
-use Rattle.step_sizes.specs.Levels.{signed, quantised, restored, outOfRange}
+use Rattle.step_sizes.specs.Levels.{signed, quantised, restored, is_out_of_range}
 
 pub negated : (x : ℤ) → pos 0 -ℤ x ≡ neg_ℤ x
 negated x = +ℤ_idl (neg_ℤ x)
 
 -- ---- the two signs
 
-pub negative-magnitude : (x : ℤ) → lt_z x (pos 0) ≡ true → neg_ℤ x ≡ pos (nat_abs x)
-negative-magnitude (pos n) t = absurd (omega (arith, ltb-true n 0 t))
-negative-magnitude (negsuc n) t = refl
+pub negative_magnitude : (x : ℤ) → lt_z x (pos 0) ≡ true → neg_ℤ x ≡ pos (nat_abs x)
+negative_magnitude (pos n) t = absurd (omega (arith, ltb-true n 0 t))
+negative_magnitude (negsuc n) t = refl
 
-pub negative-sign : (x : ℤ) (m : ℕ) → lt_z x (pos 0) ≡ true → signed x m ≡ neg_ℤ (pos m)
-negative-sign (pos n) m t = absurd (omega (arith, ltb-true n 0 t))
-negative-sign (negsuc n) m t = refl
+pub negative_sign : (x : ℤ) (m : ℕ) → lt_z x (pos 0) ≡ true → signed x m ≡ neg_ℤ (pos m)
+negative_sign (pos n) m t = absurd (omega (arith, ltb-true n 0 t))
+negative_sign (negsuc n) m t = refl
 
-pub other-magnitude : (x : ℤ) → lt_z x (pos 0) ≡ false → x ≡ pos (nat_abs x)
-other-magnitude (pos n) t = refl
-other-magnitude (negsuc n) t = absurd (subst (λ (b : Bool). T b) t tt)
+pub other_magnitude : (x : ℤ) → lt_z x (pos 0) ≡ false → x ≡ pos (nat_abs x)
+other_magnitude (pos n) t = refl
+other_magnitude (negsuc n) t = absurd (subst (λ (b : Bool). T b) t tt)
 
 pub other_sign : (x : ℤ) (m : ℕ) → lt_z x (pos 0) ≡ false → signed x m ≡ pos m
 other_sign (pos n) m t = refl
@@ -46,9 +46,9 @@ pub negative_fits : (m : ℕ) → m ≤ 2147483648 → SFits w32 (neg_ℤ (pos m
 negative_fits zero h = record { sfits = omega arith }
 negative_fits (suc m) h = record { sfits = omega arith }
 
-pub neg-times : (q s : ℕ) → neg_ℤ (pos q) *ℤ pos s ≡ neg_ℤ (pos (q * s))
-neg-times zero s = let z : 0 * s ≡ 0 = omega arith in rw z
-neg-times (suc q) s = refl
+pub neg_times : (q s : ℕ) → neg_ℤ (pos q) *ℤ pos s ≡ neg_ℤ (pos (q * s))
+neg_times zero s = let z : 0 * s ≡ 0 = omega arith in rw z
+neg_times (suc q) s = refl
 
 -- a magnitude that is no larger, with the same sign
 pub sign_fits : (x : ℤ) (m : ℕ) → SFits w32 x → m ≤ nat_abs x → SFits w32 (signed x m)
@@ -65,41 +65,41 @@ same_test a b c d f g = case (ltb c d) refl
     case false e = let n : ¬ (a < b) = λ h. omega (arith, f h, ltb-false c d e) in le-ltb a b (omega (arith, n))
 
 -- more than the quotient of a bound: the product is more than the bound
-quotient-test : (s bound n : ℕ) → 0 < s → ltb (bound / s) n ≡ ltb bound (n * s)
-quotient-test s bound n h = same_test _ _ _ _ (div-lt_iff_lt-mul h).0 (div-lt_iff_lt-mul h).1
+quotient_test : (s bound n : ℕ) → 0 < s → ltb (bound / s) n ≡ ltb bound (n * s)
+quotient_test s bound n h = same_test _ _ _ _ (div-lt_iff_lt-mul h).0 (div-lt_iff_lt-mul h).1
 
 -- a negative number below another, and one below the range, by magnitudes
-below-test : (n k : ℕ) → lt_z (negsuc n) (neg_ℤ (pos k)) ≡ ltb k (suc n)
-below-test n zero = sym (lt-ltb 0 (suc n) (omega arith))
-below-test n (suc k) = same_test k n (suc k) (suc n) (λ h. omega arith) (λ h. omega arith)
+below_test : (n k : ℕ) → lt_z (negsuc n) (neg_ℤ (pos k)) ≡ ltb k (suc n)
+below_test n zero = sym (lt-ltb 0 (suc n) (omega arith))
+below_test n (suc k) = same_test k n (suc k) (suc n) (λ h. omega arith) (λ h. omega arith)
 
-below-range : (p : ℕ) → outOfRange (neg_ℤ (pos p)) ≡ ltb 2147483648 p
-below-range zero = refl
-below-range (suc p) = same_test 2147483647 p 2147483648 (suc p) (λ h. omega arith) (λ h. omega arith)
+below_range : (p : ℕ) → is_out_of_range (neg_ℤ (pos p)) ≡ ltb 2147483648 p
+below_range zero = refl
+below_range (suc p) = same_test 2147483647 p 2147483648 (suc p) (λ h. omega arith) (λ h. omega arith)
 
 not-below : (n k : ℕ) → lt_z (pos n) (neg_ℤ (pos k)) ≡ false
 not-below n zero = le-ltb n 0 (omega arith)
 not-below n (suc k) = refl
 
-pub outside-limits : (s : ℕ) → 0 < s → (level : ℤ)
-    → lt_z level (neg_ℤ (pos (2147483648 / s))) || lt_z (pos (2147483647 / s)) level ≡ outOfRange (restored s level)
-outside-limits s h (pos n) = rw (not-below n (2147483648 / s)) (quotient-test s 2147483647 n h)
-outside-limits s h (negsuc n) =
-    rw (below-test n (2147483648 / s), below-range (suc n * s), quotient-test s 2147483648 (suc n) h) (or-false (ltb 2147483648 (suc n * s)))
+pub outside_limits : (s : ℕ) → 0 < s → (level : ℤ)
+    → lt_z level (neg_ℤ (pos (2147483648 / s))) || lt_z (pos (2147483647 / s)) level ≡ is_out_of_range (restored s level)
+outside_limits s h (pos n) = rw (not-below n (2147483648 / s)) (quotient_test s 2147483647 n h)
+outside_limits s h (negsuc n) =
+    rw (below_test n (2147483648 / s), below_range (suc n * s), quotient_test s 2147483648 (suc n) h) (or-false (ltb 2147483648 (suc n * s)))
 
-pub in-range : (z : ℤ) → outOfRange z ≡ false → SFits w32 z
-in-range (pos n) e = record { sfits = omega (arith, ltb-false 2147483647 n e) }
-in-range (negsuc n) e = record { sfits = omega (arith, ltb-false 2147483647 n e) }
+pub in_range : (z : ℤ) → is_out_of_range z ≡ false → SFits w32 z
+in_range (pos n) e = record { sfits = omega (arith, ltb-false 2147483647 n e) }
+in_range (negsuc n) e = record { sfits = omega (arith, ltb-false 2147483647 n e) }
 
 -- ---- the product of a coefficient's level, by the sign
 
-pub negative-product : (s : ℕ) (x : ℤ) → lt_z x (pos 0) ≡ true → restored s (quantised s x) ≡ neg_ℤ (pos ((nat_abs x + s / 2) / s * s))
+pub negative_product : (s : ℕ) (x : ℤ) → lt_z x (pos 0) ≡ true → restored s (quantised s x) ≡ neg_ℤ (pos ((nat_abs x + s / 2) / s * s))
 unfolding quantised
-negative-product s x t = rw (negative-sign x ((nat_abs x + s / 2) / s) t) (neg-times ((nat_abs x + s / 2) / s) s)
+negative_product s x t = rw (negative_sign x ((nat_abs x + s / 2) / s) t) (neg_times ((nat_abs x + s / 2) / s) s)
 
-pub other-product : (s : ℕ) (x : ℤ) → lt_z x (pos 0) ≡ false → restored s (quantised s x) ≡ pos ((nat_abs x + s / 2) / s * s)
+pub other_product : (s : ℕ) (x : ℤ) → lt_z x (pos 0) ≡ false → restored s (quantised s x) ≡ pos ((nat_abs x + s / 2) / s * s)
 unfolding quantised
-other-product s x t = rw (other_sign x ((nat_abs x + s / 2) / s) t)
+other_product s x t = rw (other_sign x ((nat_abs x + s / 2) / s) t)
 
 -- ---- coefficients whose level has a product outside the range
 
@@ -119,12 +119,12 @@ module _ (bound step m : ℕ) (h : 0 < step) (k : m ≤ bound) where
       omega (arith, mul-le-mul_right step f, div-mul-le_self (m + step / 2) step, suc-mul (bound / step) step, div-add-mod' bound step, mod-lt bound h)
 
   beyond : ltb (top bound step) m ≡ ltb bound ((m + step / 2) / step * step)
-  beyond = rw (← quotient-test step bound ((m + step / 2) / step) h) (same_test (top bound step) m (bound / step) ((m + step / 2) / step) above not-below-top)
+  beyond = rw (← quotient_test step bound ((m + step / 2) / step) h) (same_test (top bound step) m (bound / step) ((m + step / 2) / step) above not-below-top)
 
-pub outside-rounded : (s : ℕ) → 0 < s → (x : ℤ) → SFits w32 x
-    → lt_z x (neg_ℤ (pos (top 2147483648 s))) || lt_z (pos (top 2147483647 s)) x ≡ outOfRange (restored s (quantised s x))
+pub outside_rounded : (s : ℕ) → 0 < s → (x : ℤ) → SFits w32 x
+    → lt_z x (neg_ℤ (pos (top 2147483648 s))) || lt_z (pos (top 2147483647 s)) x ≡ is_out_of_range (restored s (quantised s x))
 unfolding quantised
-outside-rounded s h (pos n) f = rw (not-below n (top 2147483648 s)) (beyond 2147483647 s n h (omega (arith, f.sfits)))
-outside-rounded s h (negsuc n) f =
-    rw (below-test n (top 2147483648 s), neg-times ((suc n + s / 2) / s) s, below-range ((suc n + s / 2) / s * s), ← beyond 2147483648 s (suc n) h (omega (arith, f.sfits)))
+outside_rounded s h (pos n) f = rw (not-below n (top 2147483648 s)) (beyond 2147483647 s n h (omega (arith, f.sfits)))
+outside_rounded s h (negsuc n) f =
+    rw (below_test n (top 2147483648 s), neg_times ((suc n + s / 2) / s) s, below_range ((suc n + s / 2) / s * s), ← beyond 2147483648 s (suc n) h (omega (arith, f.sfits)))
     (or-false (ltb (top 2147483648 s) (suc n)))

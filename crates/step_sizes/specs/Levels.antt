@@ -15,6 +15,6 @@ abbrev pub restored : ℕ → ℤ → ℤ
 restored step level = level *ℤ pos step
 
 -- outside the signed 32-bit range; `negsuc n` is -(n + 1)
-abbrev pub outOfRange : ℤ → Bool
-outOfRange (pos n) = ltb 2147483647 n
-outOfRange (negsuc n) = ltb 2147483647 n
+abbrev pub is_out_of_range : ℤ → Bool
+is_out_of_range (pos n) = ltb 2147483647 n
+is_out_of_range (negsuc n) = ltb 2147483647 n

@@ -6,9 +6,9 @@ unfoldable pub step_of : ℕ → ℕ
 step_of index = cond (ltb index 1) 1 (cond (ltb index 16) index ((16 + index % 16) * 2 ^ (index / 16 - 1)))
 
 -- the step of index 255
-abbrev pub largestStep : ℕ
-largestStep = 507904
+abbrev pub largest_step : ℕ
+largest_step = 507904
 
 -- what a caller is told who asks for the step of an index: 0 for one above 255
-abbrev pub stepAnswer : ℕ → ℕ
-stepAnswer index = cond (ltb 255 index) 0 (step_of index)
+abbrev pub step_answer : ℕ → ℕ
+step_answer index = cond (ltb 255 index) 0 (step_of index)

@@ -1,7 +1,7 @@
 // One coefficient quantised and restored at once, which rounds it to the nearest multiple of the step.
 ghost use Rattle.std.specs.Prelude.{◌≡◌, ◌+◌, ◌-◌, ◌*◌, ◌/◌, ◌%◌, ◌≤◌, ◌<◌};
 ghost use Rattle.lifting.specs.Wrap.{wrap};
-ghost use Rattle.step_sizes.specs.Steps.{largestStep};
+ghost use Rattle.step_sizes.specs.Steps.{largest_step};
 ghost use Rattle.step_sizes.specs.Levels.{quantised, restored};
 ghost use Rattle.step_sizes.specs.Parts.{Divides, RoundLimits};
 
@@ -49,7 +49,7 @@ fn excess(bound: u32, step: u32) -> u32
 // The coefficients whose level has a product with the step in the signed 32-bit range.
 pub fn round_limits(step: u32) -> Limits
     requires step_nonzero { 0 < step }
-    requires step_le_largest_step { step ≤ largestStep }
+    requires step_le_largest_step { step ≤ largest_step }
     ensures { RoundLimits step result }
 {
     let below = excess(2147483648, step);

@@ -1,8 +1,8 @@
 // One coefficient quantised, and one level restored.
 ghost use Rattle.std.specs.Prelude.{◌≡◌, false, ◌||◌, ◌≤◌, ◌<◌, nat_abs};
 ghost use Rattle.std.specs.Int.Signed.{lt_z};
-ghost use Rattle.step_sizes.specs.Steps.{largestStep};
-ghost use Rattle.step_sizes.specs.Levels.{signed, quantised, restored, outOfRange};
+ghost use Rattle.step_sizes.specs.Steps.{largest_step};
+ghost use Rattle.step_sizes.specs.Levels.{signed, quantised, restored, is_out_of_range};
 ghost use Rattle.step_sizes.specs.Parts.{Divides, LimitsOf};
 
 use crate::division::{Divisor, divide};
@@ -61,8 +61,8 @@ pub fn limits_of(step: u32) -> Limits
 }
 
 pub fn restore_number(level: i32, step: u32) -> i32
-    requires step_le_largest_step { step ≤ largestStep }
-    requires level_value { outOfRange (restored step level) ≡ false }
+    requires step_le_largest_step { step ≤ largest_step }
+    requires level_value { is_out_of_range (restored step level) ≡ false }
     ensures { result ≡ restored step level }
 {
     level * (step as i32)

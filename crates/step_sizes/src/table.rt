@@ -1,6 +1,6 @@
 // The table of steps: index 0 to 255.
 ghost use Rattle.std.specs.Prelude.{◌≡◌, ◌≤◌, ◌<◌, length};
-ghost use Rattle.step_sizes.specs.Steps.{step_of, stepAnswer};
+ghost use Rattle.step_sizes.specs.Steps.{step_of, step_answer};
 ghost use Rattle.step_sizes.specs.Parts.{Entry};
 
 const STEPS: [u32; 256] = [
@@ -39,7 +39,7 @@ pub fn step(index: u32) -> u32
 
 // The step of any index: 0 where the table has none.
 pub fn step_or_zero(index: u32) -> u32
-    ensures { result ≡ stepAnswer index }
+    ensures { result ≡ step_answer index }
 {
     if 255 < index {
         return 0;

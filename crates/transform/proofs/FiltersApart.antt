@@ -11,7 +11,7 @@ use Rattle.lifting.proofs.Between.{All}
 use Rattle.lifting.proofs.Apart.{Joins}
 use Rattle.picture.specs.Numbers.{◌if◌}
 use Rattle.transform.specs.Apart.{among, windows_at, FiltersApart}
-use Rattle.transform.specs.Level.{squareFilterAt}
+use Rattle.transform.specs.Level.{square_filter_at}
 use Rattle.transform.proofs.Apart.{of-filters}
 
 -- at most one window has the place i, and only where i is in S
@@ -19,22 +19,22 @@ pub record OneWindow (S : ℕ → Type 0) (a : Program) : Type 0 where
   pub most : (i : ℕ) → windows_at a i ≤ 1
   pub inside : (i : ℕ) → 0 < windows_at a i → S i
 
-windows-then : (a b : Program) (i : ℕ) → windows_at (a then b) i ≡ windows_at a i + windows_at b i
+windows_then : (a b : Program) (i : ℕ) → windows_at (a then b) i ≡ windows_at a i + windows_at b i
 unfolding windows_at ◌then◌
-windows-then end b i = omega arith
-windows-then (l ⨾ a) b i = windows-then a b i
-windows-then (reorder to back a) b i = windows-then a b i
-windows-then (apply o s ps a) b i = omega (arith, windows-then a b i)
+windows_then end b i = omega arith
+windows_then (l ⨾ a) b i = windows_then a b i
+windows_then (reorder to back a) b i = windows_then a b i
+windows_then (apply o s ps a) b i = omega (arith, windows_then a b i)
 
 -- two counts of which one is 0
-join-most : {A B : Type 0} (m n : ℕ) → (A → B → ⊥) → m ≤ 1 → n ≤ 1 → (0 < m → A) → (0 < n → B) → m + n ≤ 1
-join-most zero n apart h k f g = omega arith
-join-most (suc m) zero apart h k f g = omega arith
-join-most (suc m) (suc n) apart h k f g = absurd (apart (f (omega arith)) (g (omega arith)))
+join_most : {A B : Type 0} (m n : ℕ) → (A → B → ⊥) → m ≤ 1 → n ≤ 1 → (0 < m → A) → (0 < n → B) → m + n ≤ 1
+join_most zero n apart h k f g = omega arith
+join_most (suc m) zero apart h k f g = omega arith
+join_most (suc m) (suc n) apart h k f g = absurd (apart (f (omega arith)) (g (omega arith)))
 
-join-inside : {A B C : Type 0} (m n : ℕ) → (A → C) → (B → C) → (0 < m → A) → (0 < n → B) → 0 < m + n → C
-join-inside zero n k l f g h = l (g (omega (arith, h)))
-join-inside (suc m) n k l f g h = k (f (omega arith))
+join_inside : {A B C : Type 0} (m n : ℕ) → (A → C) → (B → C) → (0 < m → A) → (0 < n → B) → 0 < m + n → C
+join_inside zero n k l f g h = l (g (omega (arith, h)))
+join_inside (suc m) n k l f g h = k (f (omega arith))
 
 one-window : Joins OneWindow
 unfolding windows_at
@@ -42,16 +42,16 @@ one-window = record {
   nothing = λ S. record { most = λ i. omega arith; inside = λ i h. absurd (omega (arith, h)) };
   weaken = λ k h. record { most = h.most; inside = λ i l. k i (h.inside i l) };
   join = λ {S} {R} {U} {a} {b} apart k l h m. record {
-    most = λ i. rw (windows-then a b i) (join-most (windows_at a i) (windows_at b i) (apart i) (h.most i) (m.most i) (h.inside i) (m.inside i));
-    inside = λ i z. join-inside (windows_at a i) (windows_at b i) (k i) (l i) (h.inside i) (m.inside i) (rw (windows-then a b i) at z);
+    most = λ i. rw (windows_then a b i) (join_most (windows_at a i) (windows_at b i) (apart i) (h.most i) (m.most i) (h.inside i) (m.inside i));
+    inside = λ i z. join_inside (windows_at a i) (windows_at b i) (k i) (l i) (h.inside i) (m.inside i) (rw (windows_then a b i) at z);
   };
 }
 
 -- ---- one use
 
-one-if : (b : Bool) → (1 if b) + 0 ≤ 1
-one-if true = omega arith
-one-if false = omega arith
+one_if : (b : Bool) → (1 if b) + 0 ≤ 1
+one_if true = omega arith
+one_if false = omega arith
 
 found : (S : ℕ → Type 0) (ps : List ℕ) (i : ℕ) → All S ps → among ps i ≡ true → S i
 found S [] i h e = absurd (let z : ◌≡◌ {A = ℕ} 0 1 = cc in omega arith)
@@ -65,11 +65,11 @@ one_inside : (S : ℕ → Type 0) (ps : List ℕ) (i : ℕ) → All S ps → (b 
 one_inside S ps i h true e l = found S ps i h e
 one_inside S ps i h false e l = absurd (omega (arith, l))
 
-one-use : (o : Operator) (s : Program) (ps : List ℕ) {S : ℕ → Type 0} → All S ps → OneWindow S (apply o s ps end)
+one_use : (o : Operator) (s : Program) (ps : List ℕ) {S : ℕ → Type 0} → All S ps → OneWindow S (apply o s ps end)
 unfolding windows_at
-one-use o s ps {S} h = record { most = λ i. one-if (among ps i); inside = λ i l. one_inside S ps i h (among ps i) refl l }
+one_use o s ps {S} h = record { most = λ i. one_if (among ps i); inside = λ i l. one_inside S ps i h (among ps i) refl l }
 
-pub filters-apart : FiltersApart
-unfolding squareFilterAt
-filters-apart p q wide tall i =
-    (of-filters one-window p q (record { squares = λ S w k h. one-use _ _ _ h; fours = λ S a b c d h. one-use _ _ _ h }) wide tall).most i
+pub filters_apart : FiltersApart
+unfolding square_filter_at
+filters_apart p q wide tall i =
+    (of-filters one-window p q (record { squares = λ S w k h. one_use _ _ _ h; fours = λ S a b c d h. one_use _ _ _ h }) wide tall).most i

@@ -22,12 +22,12 @@ pub record UpTo (f : ℕ → ℤ) (p : List ℤ) (i : ℕ) (now : List ℤ) : Ty
   pub long : length now ≡ length p
   pub is : now ≡ table i f ++ drop i p
 
-pub up-to-none : (f : ℕ → ℤ) (p : List ℤ) → UpTo f p 0 p
+pub up_to_none : (f : ℕ → ℤ) (p : List ℤ) → UpTo f p 0 p
 unfolding table
-up-to-none f p = record { most = omega arith; long = refl; is = refl }
+up_to_none f p = record { most = omega arith; long = refl; is = refl }
 
-pub up-to-more : {f : ℕ → ℤ} {p now : List ℤ} {i : ℕ} {y : ℤ} → UpTo f p i now → i < length p → y ≡ f i → UpTo f p (i + 1) (set now i y)
-up-to-more {f} {p} {now} {i} u h q = record {
+pub up_to_more : {f : ℕ → ℤ} {p now : List ℤ} {i : ℕ} {y : ℤ} → UpTo f p i now → i < length p → y ≡ f i → UpTo f p (i + 1) (set now i y)
+up_to_more {f} {p} {now} {i} u h q = record {
   most = omega arith;
   long = simp length-set u.long;
   is =
@@ -36,11 +36,11 @@ up-to-more {f} {p} {now} {i} u h q = record {
 }
 
 -- the next number is as it was
-pub up-to-next : {f : ℕ → ℤ} {p now : List ℤ} {i : ℕ} → UpTo f p i now → i < length p → at now i ≡ at p i
-up-to-next {f} {p} {now} {i} u h = rw (u.is, drop-cons p i (pos 0) h) (get_or_at (table i f) (at p i) (drop (suc i) p) (pos 0) i (length-table i f))
+pub up_to_next : {f : ℕ → ℤ} {p now : List ℤ} {i : ℕ} → UpTo f p i now → i < length p → at now i ≡ at p i
+up_to_next {f} {p} {now} {i} u h = rw (u.is, drop-cons p i (pos 0) h) (get_or_at (table i f) (at p i) (drop (suc i) p) (pos 0) i (length-table i f))
 
-pub up-to-all : {f : ℕ → ℤ} {p now : List ℤ} {i : ℕ} → UpTo f p i now → i ≡ length p → now ≡ table (length p) f
-up-to-all {f} {p} u e = u.is ∙ rw (e, drop-length p) (append-nil (table (length p) f))
+pub up_to_all : {f : ℕ → ℤ} {p now : List ℤ} {i : ℕ} → UpTo f p i now → i ≡ length p → now ≡ table (length p) f
+up_to_all {f} {p} u e = u.is ∙ rw (e, drop-length p) (append-nil (table (length p) f))
 
 -- ---- each number from the one at its place in another list, which may be p itself
 
@@ -49,5 +49,5 @@ unfolding table
 map-table g [] = refl
 map-table g (x ∷ from) = ap (λ (l : List ℤ). g x ∷ l) (map-table g from)
 
-pub up-to-mapped : (g : ℤ → ℤ) (from : List ℤ) {p now : List ℤ} {i : ℕ} → UpTo (λ k. g (at from k)) p i now → length from ≡ length p → i ≡ length p → now ≡ map g from
-up-to-mapped g from u h e = up-to-all u e ∙ rw (← h) (map-table g from)
+pub up_to_mapped : (g : ℤ → ℤ) (from : List ℤ) {p now : List ℤ} {i : ℕ} → UpTo (λ k. g (at from k)) p i now → length from ≡ length p → i ≡ length p → now ≡ map g from
+up_to_mapped g from u h e = up_to_all u e ∙ rw (← h) (map-table g from)

@@ -4,7 +4,7 @@ use Rattle.lifting.specs.Program.{at}
 use Rattle.picture.specs.declared.size.Size.{Size}
 use Rattle.picture.specs.Sizes.{macroblocks}
 use Rattle.picture.specs.Planes.{Planes}
-use Rattle.transform.specs.Grids.{blockOrder}
+use Rattle.transform.specs.Grids.{block_order}
 
 -- x lies among `count` places from `first` on, or at most `margin` before or after them
 pub record Near (margin first count x : ℕ) : Type 0 where
@@ -17,26 +17,26 @@ pub record Window (margin side r c y x : ℕ) : Type 0 where
   pub column : Near margin c side x
 
 -- high-pass numbers of one block: its own 4 x 4 samples; modes 1 and 2 also 2 samples beyond on each side
-abbrev pub highMargin : ℕ → ℕ
-highMargin zero = 0
-highMargin (suc mode) = 2
+abbrev pub high_margin : ℕ → ℕ
+high_margin zero = 0
+high_margin (suc mode) = 2
 
 -- DC and low-pass of one macroblock: its own 16 x 16; mode 1 also 2 beyond on each side; mode 2 also 10 beyond
-abbrev pub lowMargin : ℕ → ℕ
-lowMargin zero = 0
-lowMargin (suc zero) = 2
-lowMargin (suc (suc mode)) = 10
+abbrev pub low_margin : ℕ → ℕ
+low_margin zero = 0
+low_margin (suc zero) = 2
+low_margin (suc (suc mode)) = 10
 
 -- block b of the picture, in raster order, and macroblock m: the samples that they can reach
 abbrev pub BlockWindow : ℕ → ℕ → ℕ → ℕ → ℕ → Type 0
-BlockWindow mode W b y x = Window (highMargin mode) 4 (4 * (b / (4 * W))) (4 * (b % (4 * W))) y x
+BlockWindow mode W b y x = Window (high_margin mode) 4 (4 * (b / (4 * W))) (4 * (b % (4 * W))) y x
 
 abbrev pub MacroblockWindow : ℕ → ℕ → ℕ → ℕ → ℕ → Type 0
-MacroblockWindow mode W m y x = Window (lowMargin mode) 16 (16 * (m / W)) (16 * (m % W)) y x
+MacroblockWindow mode W m y x = Window (low_margin mode) 16 (16 * (m / W)) (16 * (m % W)) y x
 
 -- two sets of planes are alike in a block if its 15 high-pass numbers are, and in a macroblock if its DC and its 15 low-pass numbers are
 abbrev pub AlikeInBlock : ℕ → Planes → Planes → ℕ → Type 0
-AlikeInBlock W s t b = (k : ℕ) → k < 15 → at s.high (15 * blockOrder W b + k) ≡ at t.high (15 * blockOrder W b + k)
+AlikeInBlock W s t b = (k : ℕ) → k < 15 → at s.high (15 * block_order W b + k) ≡ at t.high (15 * block_order W b + k)
 
 abbrev pub AlikeInMacroblock : Planes → Planes → ℕ → Type 0
 AlikeInMacroblock s t m = (at s.dc m ≡ at t.dc m) × ((k : ℕ) → k < 15 → at s.low (15 * m + k) ≡ at t.low (15 * m + k))

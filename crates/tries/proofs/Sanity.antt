@@ -5,18 +5,18 @@ use mathlib.Core.Bool.{Bool, true, false}
 use mathlib.Core.List.{List, [], ◌∷◌}
 use lib.IntN.{pos}
 use Rattle.lifting.specs.Wrap.{wrap}
-use Rattle.lifting.specs.Program.{run, back, undo, line, value, get, put, ◌then◌, each, lineBy, run_by, undoBy, valueBy}
-use Rattle.figures.specs.Figures.{hadamard, odd, oddOdd, core, coreStages}
-use Rattle.transform.specs.Level.{square, coreAt, cores, level}
+use Rattle.lifting.specs.Program.{run, back, undo, line, value, get, put, ◌then◌, each, line_by, run_by, undo_by, value_by}
+use Rattle.figures.specs.Figures.{hadamard, odd, odd_odd, core, core_stages}
+use Rattle.transform.specs.Level.{square, core_at, cores, level}
 use Rattle.picture.specs.Table.{table}
-use Rattle.transform.specs.Grids.{grid, firstGrid, secondGrid, dcOf, low_of, view_of, high_of}
-use Rattle.transform.specs.Transform.{quarterBy, inverseBy, secondUndone, firstUndone, forwardBy, inverse}
-use Rattle.transform.proofs.Sanity.{of, dcOnly}
+use Rattle.transform.specs.Grids.{grid, first_grid, second_grid, dc_of, low_of, view_of, high_of}
+use Rattle.transform.specs.Transform.{quarter_by, inverse_by, second_undone, first_undone, forward_by, inverse}
+use Rattle.transform.proofs.Sanity.{of, dc_only}
 use Rattle.step_sizes.specs.Steps.{step_of}
 use Rattle.step_sizes.specs.Levels.{quantised}
-use Rattle.quantise.specs.Quantise.{quantisedPlanes}
-use Rattle.restore.specs.Restore.{restoredPlanes}
-use Rattle.tries.specs.Tries.{triedPlanesBy, triedSamplesBy, passesBy, passes}
+use Rattle.quantise.specs.Quantise.{quantised_planes}
+use Rattle.restore.specs.Restore.{restored_planes}
+use Rattle.tries.specs.Tries.{tried_planes_by, tried_samples_by, passes_by, passes}
 
 -- in mode 0 a DC number of 64 gives samples of 4: step 32 keeps it, and step 507904 makes it 0
 abbrev grey : ℕ → ℕ → Bool
@@ -24,8 +24,8 @@ grey = passes 0 (of 1 1) (table 256 (λ i. pos 4))
 
 -- a DC number of 2147483647: step 2 has the product 2147483648
 abbrev bright : ℕ → ℕ → Bool
-bright = passes 0 (of 1 1) (inverse 0 (of 1 1) (dcOnly 1 (pos 2147483647 ∷ [])))
+bright = passes 0 (of 1 1) (inverse 0 (of 1 1) (dc_only 1 (pos 2147483647 ∷ [])))
 
 pub computed : (grey 0 32 ≡ true) × (grey 4 255 ≡ true) × (grey 3 255 ≡ false) × (bright 4294967295 2 ≡ false)
-unfolding wrap run_by back undoBy lineBy valueBy get put ◌then◌ each hadamard odd oddOdd core coreStages square coreAt cores level table grid firstGrid secondGrid dcOf low_of view_of high_of quarterBy inverseBy secondUndone firstUndone forwardBy step_of quantised quantisedPlanes restoredPlanes triedPlanesBy triedSamplesBy passesBy
+unfolding wrap run_by back undo_by line_by value_by get put ◌then◌ each hadamard odd odd_odd core core_stages square core_at cores level table grid first_grid second_grid dc_of low_of view_of high_of quarter_by inverse_by second_undone first_undone forward_by step_of quantised quantised_planes restored_planes tried_planes_by tried_samples_by passes_by
 computed = (refl, refl, refl, refl)

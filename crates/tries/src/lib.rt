@@ -2,9 +2,9 @@
 ghost use Rattle.std.specs.Prelude.{◌≡◌, true, false, ◌*◌, ◌≤◌, length};
 ghost use Rattle.picture.specs.Sizes.{Sized, macroblocks};
 ghost use Rattle.picture.specs.Planes.{Lengths, planes};
-ghost use Rattle.quantise.specs.Quantise.{quantisedPlanes};
-ghost use Rattle.restore.specs.Restore.{restoredPlanes, anyOutOf};
-ghost use Rattle.tries.specs.Tries.{allBands, triedPlanesBy, triedSamplesBy, passesBy};
+ghost use Rattle.quantise.specs.Quantise.{quantised_planes};
+ghost use Rattle.restore.specs.Restore.{restored_planes, any_out_of};
+ghost use Rattle.tries.specs.Tries.{all_bands, tried_planes_by, tried_samples_by, passes_by};
 
 use bands::in_place::round_plane;
 use differences::all_near;
@@ -17,9 +17,9 @@ use picture::size::Size;
 fn round_planes(index: u32, dc: &mut [i32], low: &mut [i32], high: &mut [i32]) -> bool
     requires { index ≤ 255 }
     ensures value { result ≡
-        anyOutOf (restoredPlanes (allBands index) (quantisedPlanes (allBands index) (planes dc.old low.old high.old))) }
+        any_out_of (restored_planes (all_bands index) (quantised_planes (all_bands index) (planes dc.old low.old high.old))) }
     ensures high_after { result ≡ false → planes dc.new low.new high.new ≡
-        restoredPlanes (allBands index) (quantisedPlanes (allBands index) (planes dc.old low.old high.old)) }
+        restored_planes (all_bands index) (quantised_planes (all_bands index) (planes dc.old low.old high.old)) }
 {
     if round_plane(index, dc) {
         return true;
@@ -47,9 +47,9 @@ pub fn try_index(
     requires samples_len { length samples.now ≡ 256 * macroblocks size }
     requires lengths { Lengths (macroblocks size) (planes dc.old low.old high.old) }
     requires second_len { length second.old ≡ 256 * macroblocks size }
-    ensures value { result ≡ passesBy mode size samples.now tolerance index }
-    ensures high_after { result ≡ true → planes dc.new low.new high.new ≡ triedPlanesBy mode size samples.now index }
-    ensures second_after { result ≡ true → second.new ≡ triedSamplesBy mode size samples.now index }
+    ensures value { result ≡ passes_by mode size samples.now tolerance index }
+    ensures high_after { result ≡ true → planes dc.new low.new high.new ≡ tried_planes_by mode size samples.now index }
+    ensures second_after { result ≡ true → second.new ≡ tried_samples_by mode size samples.now index }
 {
     forward_planes(mode, size, samples, dc, low, high);
     if round_planes(index, dc, low, high) {
@@ -73,8 +73,8 @@ pub fn take_zero(
     requires samples_len { length samples.now ≡ 256 * macroblocks size }
     requires lengths { Lengths (macroblocks size) (planes dc.old low.old high.old) }
     requires second_len { length second.old ≡ 256 * macroblocks size }
-    ensures high_after { planes dc.new low.new high.new ≡ triedPlanesBy mode size samples.now 0 }
-    ensures second_after { second.new ≡ triedSamplesBy mode size samples.now 0 }
+    ensures high_after { planes dc.new low.new high.new ≡ tried_planes_by mode size samples.now 0 }
+    ensures second_after { second.new ≡ tried_samples_by mode size samples.now 0 }
 {
     forward_planes(mode, size, samples, dc, low, high);
     inverse_samples(mode, size, dc, low, high, second);

@@ -1,13 +1,13 @@
 -- The block's fours, the stage on them, and the block of them.
 use mathlib.Core.Path.{◌∙◌, ap}
 use Rattle.lifting.specs.Program.{run}
-use Rattle.figures.specs.Pieces.{quarterStage}
+use Rattle.figures.specs.Pieces.{quarter_stage}
 use Rattle.core_transform.proofs.Stages.{quarter-run}
 use Rattle.core_transform.proofs.first_stage.Statement.{statement}
 use Rattle.core_transform.proofs.first_stage.Tie as tie
 
 returns : tie.Need-returns
-returns c3 = let c2 = c3.before in let c1 = c2.before in c3.quartered.ensures ∙ (quarter-run _ _ c2.quarter-stage.ensures).0 ∙ ap (run quarterStage) c1.quarters.ensures
+returns c3 = let c2 = c3.before in let c1 = c2.before in c3.quartered.ensures ∙ (quarter-run _ _ c2.quarter-stage.ensures).0 ∙ ap (run quarter_stage) c1.quarters.ensures
 
 pub first-stage-spec : {M : Type 1} → statement M
 first-stage-spec = tie.close (tie.spec (λ c κs. tt) (λ c κs. tt) (λ c κs. tt) returns)

@@ -1,18 +1,18 @@
 -- The two stages undone, and then the reorder.
 use mathlib.Core.Path.{◌∙◌, ap}
-use Rattle.lifting.specs.Program.{undo, get, undoBy}
-use Rattle.figures.specs.Figures.{inverseReorder, core}
-use Rattle.figures.specs.Pieces.{quarterStage}
-use Rattle.core_transform.proofs.Stages.{stages-undo}
+use Rattle.lifting.specs.Program.{undo, get, undo_by}
+use Rattle.figures.specs.Figures.{inverse_reorder, core}
+use Rattle.figures.specs.Pieces.{quarter_stage}
+use Rattle.core_transform.proofs.Stages.{stages_undo}
 use Rattle.core_transform.proofs.undo_core.Statement.{statement}
 use Rattle.core_transform.proofs.undo_core.Tie as tie
 
 returns : tie.Need-returns
-unfolding undoBy core
+unfolding undo_by core
 returns c3 =
     let c2 = c3.before in
     let c1 = c2.before in
-    c3.undo-reorder.ensures ∙ ap (get inverseReorder) (c2.undo-first-stage.ensures ∙ ap (undo quarterStage) c1.second-stage.ensures.1 ∙ stages-undo _)
+    c3.undo-reorder.ensures ∙ ap (get inverse_reorder) (c2.undo-first-stage.ensures ∙ ap (undo quarter_stage) c1.second-stage.ensures.1 ∙ stages_undo _)
 
 pub undo-core-spec : {M : Type 1} → statement M
 undo-core-spec = tie.close (tie.spec (λ c κs. tt) (λ c κs. tt) (λ c κs. tt) returns)

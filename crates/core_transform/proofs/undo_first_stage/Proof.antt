@@ -1,13 +1,13 @@
 -- The block's fours, the stage on them, and the block of them.
 use mathlib.Core.Path.{◌∙◌, ap}
 use Rattle.lifting.specs.Program.{undo}
-use Rattle.figures.specs.Pieces.{quarterStage}
+use Rattle.figures.specs.Pieces.{quarter_stage}
 use Rattle.core_transform.proofs.Stages.{quarter-undo}
 use Rattle.core_transform.proofs.undo_first_stage.Statement.{statement}
 use Rattle.core_transform.proofs.undo_first_stage.Tie as tie
 
 returns : tie.Need-returns
-returns c3 = let c2 = c3.before in let c1 = c2.before in c3.quartered.ensures ∙ (quarter-undo _ _ c2.undo-quarter-stage.ensures).0 ∙ ap (undo quarterStage) c1.quarters.ensures
+returns c3 = let c2 = c3.before in let c1 = c2.before in c3.quartered.ensures ∙ (quarter-undo _ _ c2.undo-quarter-stage.ensures).0 ∙ ap (undo quarter_stage) c1.quarters.ensures
 
 pub undo-first-stage-spec : {M : Type 1} → statement M
 undo-first-stage-spec = tie.close (tie.spec (λ c κs. tt) (λ c κs. tt) (λ c κs. tt) returns)

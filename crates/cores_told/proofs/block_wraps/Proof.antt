@@ -17,8 +17,8 @@ zero_is s = back s.ranges.zero.sfits
 returns : tie.Need-returns
 returns c = rw (zero_is c.before.before.before.before) at c.judge-block.ensures
 
-returns-2 : tie.Need-returns-2
-returns-2 c =
+returns_2 : tie.Need-returns-2
+returns_2 c =
     let rest = c.before in
     let zero = rest.before in
     let s = zero.before in
@@ -27,4 +27,4 @@ returns-2 c =
     sym (block-calm a.zero a.rest.now a.from (rw (zero_is s) at (zero.above.ensures calm.0)) (rest.some-above.ensures.0 calm.1))
 
 pub block-wraps-spec : {M : Type 1} → statement M
-block-wraps-spec = tie.close (tie.spec (λ c κs. omega arith) (λ c κs. (omega (arith, c.before.requires), omega arith)) (λ c κs. search rules) returns returns-2)
+block-wraps-spec = tie.close (tie.spec (λ c κs. omega arith) (λ c κs. (omega (arith, c.before.requires), omega arith)) (λ c κs. search rules) returns returns_2)

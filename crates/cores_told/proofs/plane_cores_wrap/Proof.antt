@@ -6,22 +6,22 @@ use native.Mathlib.Omega.{arith}
 use borrow.Author.Rules.{rules}
 use lib.ListN.{length}
 use Rattle.lifting.proofs.Bits.{back}
-use Rattle.lifting.proofs.Tests.{None, none_yet, none_more, any-yes, any_none}
-use Rattle.transform.specs.Grids.{blockOrder}
-use Rattle.picture.proofs.CheckLaws.{few-macroblocks}
+use Rattle.lifting.proofs.Tests.{None, none_yet, none_more, any_yes, any_none}
+use Rattle.transform.specs.Grids.{block_order}
+use Rattle.picture.proofs.CheckLaws.{few_macroblocks}
 use Rattle.picture.specs.Sizes.{macroblocks}
-use Rattle.cores_told.proofs.Blocks.{blockWraps, heldZero, block_in, held-told}
+use Rattle.cores_told.proofs.Blocks.{block_wraps, held_zero, block_in, held_told}
 use Rattle.cores_told.proofs.plane_cores_wrap.Statement.{statement}
 use Rattle.cores_told.proofs.plane_cores_wrap.Tie as tie
 
 abbrev invariant-loop : tie.invariant-loop
-invariant-loop dc low high p b₀ b_end b = (b ≤ b_end) × (b_end ≡ 16 * length dc) × None b (λ k. blockWraps (heldZero dc low (blockOrder p k)) high (15 * blockOrder p k))
+invariant-loop dc low high p b₀ b_end b = (b ≤ b_end) × (b_end ≡ 16 * length dc) × None b (λ k. block_wraps (held_zero dc low (block_order p k)) high (15 * block_order p k))
 
 abbrev decreases-loop : tie.decreases-loop
 decreases-loop dc low high p b₀ b_end b = b_end - b
 
 mul-end : tie.Need-overflow-mul-b-end invariant-loop decreases-loop
-mul-end c = record { fits = omega (arith, c.before.requires.1.dc, few-macroblocks c.before.requires.0) }
+mul-end c = record { fits = omega (arith, c.before.requires.1.dc, few_macroblocks c.before.requires.0) }
 
 loop-holds : tie.Need-loop-init invariant-loop decreases-loop
 loop-holds c = (omega arith, omega arith, none_yet _ (omega arith))
@@ -38,12 +38,12 @@ module _ (c : tie.In-loop invariant-loop decreases-loop) where
   W = s.args.size.width.0
 
   abbrev tells : ℕ → Bool
-  tells k = blockWraps (heldZero s.args.dc.now s.args.low.now (blockOrder W k)) s.args.high.now (15 * blockOrder W k)
+  tells k = block_wraps (held_zero s.args.dc.now s.args.low.now (block_order W k)) s.args.high.now (15 * block_order W k)
 
   inside : l.loop.b < 16 * macroblocks s.args.size
   inside = omega (arith, s.pre.1.dc)
 
-  order : (l.loop.b < 16 * (W * 413)) × (blockOrder W l.loop.b < 16 * macroblocks s.args.size)
+  order : (l.loop.b < 16 * (W * 413)) × (block_order W l.loop.b < 16 * macroblocks s.args.size)
   order = block_in s.pre.0 inside
 
 block-order-requires : tie.Need-block-order-requires invariant-loop decreases-loop
@@ -53,7 +53,7 @@ zero-of-requires : tie.Need-zero-of-requires invariant-loop decreases-loop
 zero-of-requires c κs = let i = c.before in (omega (arith, c.block-order.ensures, (order i).1, (s i).requires.1.dc), omega (arith, (s i).requires.1.dc, (s i).requires.1.low))
 
 fits : tie.Need-overflow-mul-block-wraps invariant-loop decreases-loop
-fits c = let o = c.before in let i = o.before in record { fits = omega (arith, o.block-order.ensures, (order i).1, few-macroblocks (s i).requires.0) }
+fits c = let o = c.before in let i = o.before in record { fits = omega (arith, o.block-order.ensures, (order i).1, few_macroblocks (s i).requires.0) }
 
 block-wraps-requires : tie.Need-block-wraps-requires invariant-loop decreases-loop
 block-wraps-requires c κs = let o = c.before in let i = o.before in omega (arith, o.block-order.ensures, (order i).1, (s i).requires.1.high)
@@ -65,14 +65,14 @@ told c =
     let i = o.before in
     let a = (s i).args in
     (rw (back {x = z.zero_of.result} z.zero_of.type-inv, z.zero_of.ensures) at c.block-wraps.ensures)
-    ∙ ap (λ (t : ℕ). blockWraps (heldZero a.dc.now a.low.now t) a.high.now (15 * t)) o.block-order.ensures
+    ∙ ap (λ (t : ℕ). block_wraps (held_zero a.dc.now a.low.now t) a.high.now (15 * t)) o.block-order.ensures
 
 returns : tie.Need-returns invariant-loop decreases-loop
 returns c =
     let b = c.before in
     let i = b.before.before.before in
-    sym (held-told (s i).requires.0.wide (s i).args.size.height.0 (s i).args.dc.now (s i).args.low.now (s i).args.high.now
-    ∙ any-yes (16 * macroblocks (s i).args.size) (tells i) (l i).loop.b (inside i) (sym (told b) ∙ c.if1.true))
+    sym (held_told (s i).requires.0.wide (s i).args.size.height.0 (s i).args.dc.now (s i).args.low.now (s i).args.high.now
+    ∙ any_yes (16 * macroblocks (s i).args.size) (tells i) (l i).loop.b (inside i) (sym (told b) ∙ c.if1.true))
 
 loop-again : tie.Need-loop-preserved invariant-loop decreases-loop
 loop-again c =
@@ -80,16 +80,16 @@ loop-again c =
     let i = b.before.before.before in
     (omega arith, omega arith, none_more (l i).loop.b (tells i) (l i).loop.invariant.2 (sym (told b) ∙ c.if1.false) (omega arith))
 
-returns-2 : tie.Need-returns-2 invariant-loop decreases-loop
-returns-2 c =
+returns_2 : tie.Need-returns-2 invariant-loop decreases-loop
+returns_2 c =
     let l = c.before in
     let s = l.before.before in
     let W = s.args.size.width.0 in
     let e : l.loop.b ≡ 16 * macroblocks s.args.size = omega (arith, s.requires.1.dc) in
-    sym (held-told s.requires.0.wide s.args.size.height.0 s.args.dc.now s.args.low.now s.args.high.now
-    ∙ any_none _ _ (subst (λ (n : ℕ). None n (λ k. blockWraps (heldZero s.args.dc.now s.args.low.now (blockOrder W k)) s.args.high.now (15 * blockOrder W k))) e l.loop.invariant.2))
+    sym (held_told s.requires.0.wide s.args.size.height.0 s.args.dc.now s.args.low.now s.args.high.now
+    ∙ any_none _ _ (subst (λ (n : ℕ). None n (λ k. block_wraps (held_zero s.args.dc.now s.args.low.now (block_order W k)) s.args.high.now (15 * block_order W k))) e l.loop.invariant.2))
 
 pub plane-cores-wrap-spec : {M : Type 1} → statement M
 plane-cores-wrap-spec =
     tie.close
-    (tie.spec invariant-loop decreases-loop (λ c. search rules) mul-end loop-holds block-order-requires zero-of-requires fits block-wraps-requires returns (λ c. search rules) (λ c. search rules) loop-again returns-2)
+    (tie.spec invariant-loop decreases-loop (λ c. search rules) mul-end loop-holds block-order-requires zero-of-requires fits block-wraps-requires returns (λ c. search rules) (λ c. search rules) loop-again returns_2)

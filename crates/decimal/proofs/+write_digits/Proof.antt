@@ -7,7 +7,7 @@ use borrow.Fn.Kinds.{In}
 use borrow.Fn.PlainCycle.{Measures, is, falls, and}
 use Rattle.decimal.specs.Text.{digit, digits}
 use Rattle.decimal.proofs.Digits.{digits-one, digits_more, length-one, length_more}
-use Rattle.decimal.proofs.Overlay.{over-set, then-byte}
+use Rattle.decimal.proofs.Overlay.{over-set, then_byte}
 use Rattle.decimal.proofs.write_digits.Reads as reads
 use Rattle.decimal.proofs.write_digits.Kinds as kinds
 use Rattle.decimal.proofs.+write_digits.Lts-write_digits as lts
@@ -34,8 +34,8 @@ module _ (t : ℕ) where
       let a = c.before.before.args in
       rw (digits-one a.n (omega arith)) (refl, over-set a.out.now a.at (digit a.n) (omega (arith, one c)))
 
-  write-digits-requires : lts.Need-write-digits-requires (asked t, reads.Post) (given t) reads.Post
-  write-digits-requires c κs = (omega arith, omega (arith, length_more c.before.before.before.args.n (omega arith)))
+  write_digits_requires : lts.Need-write-digits-requires (asked t, reads.Post) (given t) reads.Post
+  write_digits_requires c κs = (omega arith, omega (arith, length_more c.before.before.before.args.n (omega arith)))
 
   -- the last digit has room
   room : (c : lts.After-slice-known2 (asked t, reads.Post) (given t) reads.Post)
@@ -45,15 +45,15 @@ module _ (t : ℕ) where
       let w = c.before.before.write-digits in
       omega (arith, length_more a.n (omega arith), w.ensures.0, w.auto.0)
 
-  returns-2 : lts.Need-returns-2 (asked t, reads.Post) (given t) reads.Post
-  returns-2 c =
+  returns_2 : lts.Need-returns-2 (asked t, reads.Post) (given t) reads.Post
+  returns_2 c =
       let a = c.before.before.before.before.before.before.args in
       let w = c.before.before.write-digits in
       let h : 10 ≤ a.n = omega arith in
       let l = length_more a.n h in
-      (omega (arith, w.ensures.0), rw (digits_more a.n h) (then-byte a.out.now w.new.0 a.at w.result (digit (a.n % 10)) (digits (a.n / 10)) (omega arith) w.ensures.1 w.ensures.0))
+      (omega (arith, w.ensures.0), rw (digits_more a.n h) (then_byte a.out.now w.new.0 a.at w.result (digit (a.n % 10)) (digits (a.n / 10)) (omega arith) w.ensures.1 w.ensures.0))
 
 pub +write-digits-spec : {M : Type 1} → statement M
 +write-digits-spec =
     close μ
-    λ t. lts.spec (asked t, reads.Post) (given t) reads.Post (λ c. omega arith) (λ c. omega arith) (λ c. omega (arith, one t c)) (λ c. omega (arith, one t c)) (λ c. simp length-set) (returns t) (write-digits-requires t) (λ c. omega arith) (λ c. omega arith) (room t) (λ c. omega (arith, room t c)) (λ c. simp length-set c.before.before.write-digits.auto.0) (returns-2 t)
+    λ t. lts.spec (asked t, reads.Post) (given t) reads.Post (λ c. omega arith) (λ c. omega arith) (λ c. omega (arith, one t c)) (λ c. omega (arith, one t c)) (λ c. simp length-set) (returns t) (write_digits_requires t) (λ c. omega arith) (λ c. omega arith) (room t) (λ c. omega (arith, room t c)) (λ c. simp length-set c.before.before.write-digits.auto.0) (returns_2 t)

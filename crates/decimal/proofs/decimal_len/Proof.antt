@@ -26,10 +26,10 @@ returns c =
     let s = c.before.before.before in
     omega (arith, counted c.before, length-below s.args.x (rw (to_z-of_z w32 _ s.ranges.x) at c.if1.true))
 
-returns-2 : tie.Need-returns-2
-returns-2 c =
+returns_2 : tie.Need-returns-2
+returns_2 c =
     let s = c.before.before.before in
     omega (arith, counted c.before, length_above s.args.x (rw (to_z-of_z w32 _ s.ranges.x) at c.if1.false))
 
 pub decimal-len-spec : {M : Type 1} → statement M
-decimal-len-spec = tie.close (tie.spec (λ c κs. tt) (λ c κs. tt) add-result returns returns-2)
+decimal-len-spec = tie.close (tie.spec (λ c κs. tt) (λ c κs. tt) add-result returns returns_2)

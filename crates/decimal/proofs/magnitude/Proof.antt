@@ -25,9 +25,9 @@ cast-result-3 c =
 returns : tie.Need-returns
 returns c = rw (wide _ c.before.ranges.x, to_z-of_z w64 _ (below c).fits64, (below c).same)
 
-returns-2 : tie.Need-returns-2
-returns-2 c = rw (to_z-of_z w32 _ c.before.ranges.x)
+returns_2 : tie.Need-returns-2
+returns_2 c = rw (to_z-of_z w32 _ c.before.ranges.x)
 
 pub magnitude-spec : {M : Type 1} → statement M
 magnitude-spec =
-    tie.close (tie.spec cast-result sub-result cast-result-2 cast-result-3 returns returns-2)
+    tie.close (tie.spec cast-result sub-result cast-result-2 cast-result-3 returns returns_2)

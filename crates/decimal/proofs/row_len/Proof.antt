@@ -52,8 +52,8 @@ end c =
     let l = c.before in
     omega (arith, ap length (row-none l.before.args.numbers.now l.loop.j (omega arith)))
 
-returns-2 : tie.Need-returns-2 invariant-loop decreases-loop
-returns-2 c =
+returns_2 : tie.Need-returns-2 invariant-loop decreases-loop
+returns_2 c =
     let s = c.before.before.before in
     sym (count_none (row s.args.numbers.now) s.args.room (omega (arith, end c.before)))
 
@@ -65,4 +65,4 @@ returns-3 c =
 pub row-len-spec : {M : Type 1} → statement M
 row-len-spec =
     tie.close
-    (tie.spec invariant-loop decreases-loop (λ c. (omega arith, omega arith, refl)) (λ c. omega arith) (λ c. omega arith) (λ c κs. tt) returns (λ c. omega arith) (λ c. omega arith) (λ c. omega arith) (λ c. omega arith) loop-again (λ c. omega arith) loop-again-2 returns-2 (λ c. omega arith) (λ c. omega arith) returns-3)
+    (tie.spec invariant-loop decreases-loop (λ c. (omega arith, omega arith, refl)) (λ c. omega arith) (λ c. omega arith) (λ c κs. tt) returns (λ c. omega arith) (λ c. omega arith) (λ c. omega arith) (λ c. omega arith) loop-again (λ c. omega arith) loop-again-2 returns_2 (λ c. omega arith) (λ c. omega arith) returns-3)

@@ -10,7 +10,7 @@ use mir.Syntax.{w32}
 use mir.ValLaws.{to_z-of_z}
 use Rattle.decimal.specs.Text.{ascii, digits, decimal}
 use Rattle.decimal.proofs.Sign.{decimal-below, decimal-above}
-use Rattle.decimal.proofs.Overlay.{over-set, then-text}
+use Rattle.decimal.proofs.Overlay.{over-set, then_text}
 use Rattle.decimal.proofs.write_decimal.Statement.{statement}
 use Rattle.decimal.proofs.write_decimal.Tie as tie
 
@@ -29,8 +29,8 @@ above c =
 slice-write-out : tie.Need-slice-write-out
 slice-write-out c = omega (arith, ap length (below c))
 
-write-digits-requires : tie.Need-write-digits-requires
-write-digits-requires c κs = simp length-set (omega (arith, ap length (below c.before)))
+write_digits_requires : tie.Need-write-digits-requires
+write_digits_requires c κs = simp length-set (omega (arith, ap length (below c.before)))
 
 write-digits-requires-2 : tie.Need-write-digits-requires-2
 write-digits-requires-2 c κs = omega (arith, ap length (above c.before))
@@ -43,12 +43,12 @@ returns c =
     let n = c.before.before.before.before in
     let a = n.before.before.before.args in
     let w = c.before.before.write-digits in
-    rw (below n) (omega (arith, w.ensures.0), then-text a.out.now (set a.out.now a.at (code "-")) a.at (ascii "-") (digits n.before.magnitude.result) (omega arith) (over-set a.out.now a.at (code "-") (omega (arith, ap length (below n)))) refl w.ensures.1)
+    rw (below n) (omega (arith, w.ensures.0), then_text a.out.now (set a.out.now a.at (code "-")) a.at (ascii "-") (digits n.before.magnitude.result) (omega arith) (over-set a.out.now a.at (code "-") (omega (arith, ap length (below n)))) refl w.ensures.1)
 
-returns-2 : tie.Need-returns-2
-returns-2 c = rw (above c.before.before.before.before) c.before.before.write-digits2.ensures
+returns_2 : tie.Need-returns-2
+returns_2 c = rw (above c.before.before.before.before) c.before.before.write-digits2.ensures
 
 pub write-decimal-spec : {M : Type 1} → statement M
 write-decimal-spec =
     tie.close
-    (tie.spec (λ c κs. tt) slice-write-out (λ c. search rules) write-digits-requires write-digits-requires-2 same_length returns (λ c. search rules) returns-2)
+    (tie.spec (λ c κs. tt) slice-write-out (λ c. search rules) write_digits_requires write-digits-requires-2 same_length returns (λ c. search rules) returns_2)

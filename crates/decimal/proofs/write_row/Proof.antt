@@ -7,8 +7,8 @@ use lib.ListN.{length, get_or, length-set}
 use mir.Syntax.{w32}
 use mir.ValLaws.{to_z-of_z}
 use Rattle.decimal.specs.Text.{decimal, row, over}
-use Rattle.decimal.proofs.Rows.{row-over, row-none, row-some}
-use Rattle.decimal.proofs.Room.{count_fits, count_none, count-zero, count-some, written-fits, written_none}
+use Rattle.decimal.proofs.Rows.{row-over, row-none, row_some}
+use Rattle.decimal.proofs.Room.{count_fits, count_none, count-zero, count_some, written-fits, written_none}
 use Rattle.decimal.proofs.Progress.{SoFar, start, left, last, on, whole}
 use Rattle.decimal.proofs.write_row.Statement.{statement}
 use Rattle.decimal.proofs.write_row.Tie as tie
@@ -22,11 +22,11 @@ decreases-loop numbers out₀ at₀ i₀ out at i = length numbers - i
 returns : tie.Need-returns invariant-loop decreases-loop
 returns c =
     let a = c.before.before.before.args in
-    let h = count-zero (row a.numbers.now) (length a.out.now) (row-some a.numbers.now) (sym c.before.row_len.ensures ∙ c.if1.true) in
+    let h = count-zero (row a.numbers.now) (length a.out.now) (row_some a.numbers.now) (sym c.before.row_len.ensures ∙ c.if1.true) in
     (sym (count_none _ _ h), sym (written_none _ _ h))
 
 room : (c : tie.Else1 invariant-loop decreases-loop) → length (row c.before.before.before.args.numbers.now) ≤ length c.before.before.before.args.out.now
-room c = count-some _ _ (λ e. c.if1.false (c.before.row_len.ensures ∙ e))
+room c = count_some _ _ (λ e. c.if1.false (c.before.row_len.ensures ∙ e))
 
 -- the number has room, and a byte behind it
 fits : (c : tie.In-loop invariant-loop decreases-loop)
@@ -90,8 +90,8 @@ add-result c = omega (arith, newline-fits c, room c.before.before)
 same_length : tie.Need-same-length invariant-loop decreases-loop
 same_length c = simp length-set c.before.loop.invariant.1
 
-returns-2 : tie.Need-returns-2 invariant-loop decreases-loop
-returns-2 c =
+returns_2 : tie.Need-returns-2 invariant-loop decreases-loop
+returns_2 c =
     let l = c.before in
     let a = l.before.before.before.before.args in
     let h = room l.before in
@@ -101,4 +101,4 @@ returns-2 c =
 pub write-row-spec : {M : Type 1} → statement M
 write-row-spec =
     tie.close
-    (tie.spec invariant-loop decreases-loop (λ c κs. tt) returns (λ c. (omega arith, refl, start _ _)) (λ c. omega arith) (λ c. omega arith) write-decimal-requires (λ c. omega arith) (λ c. space-fits c.before.before.before) add_at (λ c. omega arith) loop-again (λ c. omega arith) loop-again-2 slice-write-out-2 add-result same_length returns-2)
+    (tie.spec invariant-loop decreases-loop (λ c κs. tt) returns (λ c. (omega arith, refl, start _ _)) (λ c. omega arith) (λ c. omega arith) write-decimal-requires (λ c. omega arith) (λ c. space-fits c.before.before.before) add_at (λ c. omega arith) loop-again (λ c. omega arith) loop-again-2 slice-write-out-2 add-result same_length returns_2)

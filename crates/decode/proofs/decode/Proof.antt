@@ -9,47 +9,47 @@ use lib.Seq.{length-take-le}
 use Rattle.picture.specs.Numbers.{first_of}
 use Rattle.picture.specs.Planes.{Planes, planes}
 use Rattle.plane_file.specs.Header.{answer}
-use Rattle.plane_file.specs.Numbers.{startChecks, totalCheck, countIn, headerNumber}
-use Rattle.plane_file.proofs.Checks.{still-refused, number_of, read-sized, read_count}
-use Rattle.decode.specs.Program.{countCheck, programNumber, planesOf, samplesOf}
-use Rattle.decode.proofs.Decide.{few, program-number}
-use Rattle.decode.proofs.Front.{left-front, left-whole, plane-of}
+use Rattle.plane_file.specs.Numbers.{start_checks, total_check, count_in, header_number}
+use Rattle.plane_file.proofs.Checks.{still_refused, number_of, read_sized, read_count}
+use Rattle.decode.specs.Program.{count_check, program_number, planes_of, samples_of}
+use Rattle.decode.proofs.Decide.{few, program_number_lem}
+use Rattle.decode.proofs.Front.{left_front, left_whole, plane_of}
 use Rattle.decode.proofs.decode.Statement.{statement}
 use Rattle.decode.proofs.decode.Tie as tie
 
 returns : tie.Need-returns
-unfolding programNumber
+unfolding program_number
 returns c =
     let r = c.before.before in
     let a = r.before.before.args in
     let bytes = a.bytes.now in
-    let n = countIn bytes in
-    let e = still-refused bytes (startChecks bytes ++ countCheck n) _ r.read_small.ensures (totalCheck n (length bytes)) c.if1.true in
-    let same = left-whole bytes _ e c.if1.true in
-    (e, (same n (planesOf bytes).dc a.dc.now, (same (15 * n) (planesOf bytes).low a.low.now, (same (240 * n) (planesOf bytes).high a.high.now, same (256 * n) (samplesOf bytes) a.samples.now))))
+    let n = count_in bytes in
+    let e = still_refused bytes (start_checks bytes ++ count_check n) _ r.read_small.ensures (total_check n (length bytes)) c.if1.true in
+    let same = left_whole bytes _ e c.if1.true in
+    (e, (same n (planes_of bytes).dc a.dc.now, (same (15 * n) (planes_of bytes).low a.low.now, (same (240 * n) (planes_of bytes).high a.high.now, same (256 * n) (samples_of bytes) a.samples.now))))
 
 macroblocks-requires : tie.Need-macroblocks-requires
 macroblocks-requires c κs =
     let e = c.before in
     let r = e.before.before in
     let bytes = r.before.before.args.bytes.now in
-    read-sized bytes (countCheck (countIn bytes)) _ r.read_small.ensures e.if1.false
+    read_sized bytes (count_check (count_in bytes)) _ r.read_small.ensures e.if1.false
 
-passed : (c : tie.Else1) → let bytes = c.before.before.before.before.args.bytes.now in first_of (startChecks bytes ++ countCheck (countIn bytes)) ≡ 0
+passed : (c : tie.Else1) → let bytes = c.before.before.before.before.args.bytes.now in first_of (start_checks bytes ++ count_check (count_in bytes)) ≡ 0
 passed c =
     let r = c.before.before in
     let bytes = r.before.before.args.bytes.now in
-    number_of bytes (startChecks bytes ++ countCheck (countIn bytes)) _ r.read_small.ensures ∙ c.if1.false
+    number_of bytes (start_checks bytes ++ count_check (count_in bytes)) _ r.read_small.ensures ∙ c.if1.false
 
 abbrev start : tie.After-macroblocks → tie.Start
 start c = c.before.before.before.before.before.before
 
-counted : (c : tie.After-macroblocks) → c.macroblocks.result.0 ≡ countIn (start c).args.bytes.now
+counted : (c : tie.After-macroblocks) → c.macroblocks.result.0 ≡ count_in (start c).args.bytes.now
 counted c =
     let e = c.before.before in
     let r = e.before.before in
     let bytes = r.before.before.args.bytes.now in
-    c.macroblocks.ensures.0 ∙ read_count bytes (startChecks bytes ++ countCheck (countIn bytes)) _ r.read_small.ensures e.if1.false
+    c.macroblocks.ensures.0 ∙ read_count bytes (start_checks bytes ++ count_check (count_in bytes)) _ r.read_small.ensures e.if1.false
 
 -- how many numbers the front has, and that the memory has as many
 size : (c : tie.After-macroblocks) → c.macroblocks.result.0 ≤ 16
@@ -79,26 +79,26 @@ transform-requires c κs =
       length-take-le _ _ (sample-room a) ∙ ap (λ (n : ℕ). 256 * n) e,
     )
 
-returns-2 : tie.Need-returns-2
-returns-2 c =
+returns_2 : tie.Need-returns-2
+returns_2 c =
     let t = c.before.before.before.before in
     let b = t.before.before.before.before.before.before in
     let a = (start b).args in
     let bytes = a.bytes.now in
-    let n = countIn bytes in
-    let k = headerNumber bytes in
-    let p = program-number bytes (passed b.before.before) in
+    let n = count_in bytes in
+    let k = header_number bytes in
+    let p = program_number_lem bytes (passed b.before.before) in
     let e = counted b in
     let was = planes (take b.macroblocks.result.0 a.dc.now) (take (15 * b.macroblocks.result.0) a.low.now) (take (240 * b.macroblocks.result.0) a.high.now) in
     let s = t.transform.ensures.1.0 in (
       t.transform.ensures.0 ∙ ap (λ (j : ℕ). answer j bytes) p,
       (
-        left-front bytes k n _ (planesOf bytes).dc a.dc.now p e (plane-of (λ (x : Planes). x.dc) k (planesOf bytes) was s),
+        left_front bytes k n _ (planes_of bytes).dc a.dc.now p e (plane_of (λ (x : Planes). x.dc) k (planes_of bytes) was s),
         (
-          left-front bytes k (15 * n) _ (planesOf bytes).low a.low.now p (ap (λ (j : ℕ). 15 * j) e) (plane-of (λ (x : Planes). x.low) k (planesOf bytes) was s),
+          left_front bytes k (15 * n) _ (planes_of bytes).low a.low.now p (ap (λ (j : ℕ). 15 * j) e) (plane_of (λ (x : Planes). x.low) k (planes_of bytes) was s),
           (
-            left-front bytes k (240 * n) _ (planesOf bytes).high a.high.now p (ap (λ (j : ℕ). 240 * j) e) (plane-of (λ (x : Planes). x.high) k (planesOf bytes) was s),
-            left-front bytes k (256 * n) _ (samplesOf bytes) a.samples.now p (ap (λ (j : ℕ). 256 * j) e) t.transform.ensures.1.1,
+            left_front bytes k (240 * n) _ (planes_of bytes).high a.high.now p (ap (λ (j : ℕ). 240 * j) e) (plane_of (λ (x : Planes). x.high) k (planes_of bytes) was s),
+            left_front bytes k (256 * n) _ (samples_of bytes) a.samples.now p (ap (λ (j : ℕ). 256 * j) e) t.transform.ensures.1.1,
           ),
         ),
       ),
@@ -111,4 +111,4 @@ decode-spec =
     (λ c. dc-room c.before) (λ c. sym (length-take-le _ _ (dc-room c.before.before))) (λ c. low-room c.before.before) (λ c. sym (length-take-le _ _ (low-room c.before.before.before)))
     (λ c. high-room c.before.before.before) (λ c. sym (length-take-le _ _ (high-room c.before.before.before.before)))
     (λ c. sample-room c.before.before.before.before) (λ c. sym (length-take-le _ _ (sample-room c.before.before.before.before.before)))
-    transform-requires (λ c. search rules) (λ c. search rules) (λ c. search rules) (λ c. search rules) returns-2)
+    transform-requires (λ c. search rules) (λ c. search rules) (λ c. search rules) (λ c. search rules) returns_2)

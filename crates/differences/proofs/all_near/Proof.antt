@@ -5,7 +5,7 @@ use mathlib.Core.Bool.{Bool, true, false, not, ◌&&◌}
 use native.Mathlib.Omega.{arith}
 use borrow.Author.Rules.{rules}
 use Rattle.lifting.specs.Tests.{all}
-use Rattle.lifting.proofs.Tests.{all-fails}
+use Rattle.lifting.proofs.Tests.{all_fails}
 use Rattle.differences.specs.Near.{near}
 use Rattle.differences.proofs.all_near.Statement.{statement}
 use Rattle.differences.proofs.all_near.Tie as tie
@@ -29,7 +29,7 @@ returns c =
     let l = k.before.before in
     let x = l.before.before.args in
     let f = near x.tolerance x.a.now x.b.now in
-    sym (all-fails (256 * x.n.0) (256 * l.loop.m + 256) f (piece f l.loop.m true k.some-far.ensures l.loop.invariant.1 c.if1.true) (omega arith))
+    sym (all_fails (256 * x.n.0) (256 * l.loop.m + 256) f (piece f l.loop.m true k.some-far.ensures l.loop.invariant.1 c.if1.true) (omega arith))
 
 loop-again : tie.Need-loop-preserved invariant-loop decreases-loop
 loop-again c =
@@ -40,8 +40,8 @@ loop-again c =
     let e : 256 * l.loop.m + 256 ≡ 256 * (l.loop.m + 1) = omega arith in
     (omega arith, subst (λ (i : ℕ). all i f ≡ true) e (piece f l.loop.m false k.some-far.ensures l.loop.invariant.1 c.if1.false))
 
-returns-2 : tie.Need-returns-2 invariant-loop decreases-loop
-returns-2 c =
+returns_2 : tie.Need-returns-2 invariant-loop decreases-loop
+returns_2 c =
     let l = c.before in
     let x = l.before.before.args in
     let e : l.loop.m ≡ x.n.0 = omega arith in
@@ -50,4 +50,4 @@ returns-2 c =
 pub all-near-spec : {M : Type 1} → statement M
 all-near-spec =
     tie.close
-    (tie.spec invariant-loop decreases-loop (λ c. search rules) loop-holds (λ c. omega arith) (λ c κs. (omega arith, omega arith)) returns (λ c. omega arith) (λ c. omega arith) loop-again returns-2)
+    (tie.spec invariant-loop decreases-loop (λ c. search rules) loop-holds (λ c. omega arith) (λ c κs. (omega arith, omega arith)) returns (λ c. omega arith) (λ c. omega arith) loop-again returns_2)

@@ -42,11 +42,11 @@ cast-result-6 c =
 returns : tie.Need-returns
 returns c = let s = c.before in rw (wide _ s.ranges.b, wide _ s.ranges.a, below c, to_z-of_z w64 _ (fits s))
 
-returns-2 : tie.Need-returns-2
-returns-2 c = let s = c.before in rw (wide _ s.ranges.a, wide _ s.ranges.b, not-below c, to_z-of_z w64 _ (fits s))
+returns_2 : tie.Need-returns-2
+returns_2 c = let s = c.before in rw (wide _ s.ranges.a, wide _ s.ranges.b, not-below c, to_z-of_z w64 _ (fits s))
 
 pub difference-spec : {M : Type 1} → statement M
 difference-spec =
     tie.close
     (tie.spec (λ c. cast_fits _ c.before.ranges.b) (λ c. cast_fits _ c.before.ranges.a) sub-result cast-result-3
-    (λ c. cast_fits _ c.before.ranges.a) (λ c. cast_fits _ c.before.ranges.b) sub-result-2 cast-result-6 returns returns-2)
+    (λ c. cast_fits _ c.before.ranges.a) (λ c. cast_fits _ c.before.ranges.b) sub-result-2 cast-result-6 returns returns_2)

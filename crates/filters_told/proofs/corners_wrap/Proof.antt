@@ -7,28 +7,28 @@ use native.Mathlib.Omega.{arith}
 use borrow.Author.Rules.{rules}
 use lib.ListN.{length}
 use lib.IntN.{ℤ}
-use Rattle.lifting.specs.Wraps.{undoWraps}
-use Rattle.lifting.specs.AnyUse.{anyUse}
+use Rattle.lifting.specs.Wraps.{undo_wraps}
+use Rattle.lifting.specs.AnyUse.{any_use}
 use Rattle.lifting.proofs.AnyUse.{four-told}
-use Rattle.transform.specs.Level.{cornerFilterAt, cornerFilters}
-use Rattle.grid.proofs.Rows.{last-two}
+use Rattle.transform.specs.Level.{corner_filter_at, corner_filters}
+use Rattle.grid.proofs.Rows.{last_two}
 use Rattle.filters_told.proofs.corners_wrap.Statement.{statement}
 use Rattle.filters_told.proofs.corners_wrap.Tie as tie
 
 room : (s : tie.Start) → let w = 4 * s.args.p in (4 * s.args.q - 2) * w + w + w ≤ length s.args.grid.now
-room s = omega (arith, last-two s.args.q (4 * s.args.p) s.requires.1.2)
+room s = omega (arith, last_two s.args.q (4 * s.args.p) s.requires.1.2)
 
 -- a use at place i, which is place j
-there : (w i j : ℕ) (v : List ℤ) {b : Bool} → b ≡ anyUse undoWraps (cornerFilterAt w i) v → i ≡ j → b ≡ anyUse undoWraps (cornerFilterAt w j) v
-there w i j v h e = h ∙ ap (λ (k : ℕ). anyUse undoWraps (cornerFilterAt w k) v) e
+there : (w i j : ℕ) (v : List ℤ) {b : Bool} → b ≡ any_use undo_wraps (corner_filter_at w i) v → i ≡ j → b ≡ any_use undo_wraps (corner_filter_at w j) v
+there w i j v h e = h ∙ ap (λ (k : ℕ). any_use undo_wraps (corner_filter_at w k) v) e
 
 returns : tie.Need-returns
-unfolding cornerFilters
+unfolding corner_filters
 returns c4 =
     let c3 = c4.before in
     let c2 = c3.before in
     let c1 = c2.before in
-    four-told undoWraps _ _ _ _ _ (there _ _ _ _ c1.corner-wraps.ensures (omega arith)) (there _ _ _ _ c2.corner-wraps2.ensures (omega arith))
+    four-told undo_wraps _ _ _ _ _ (there _ _ _ _ c1.corner-wraps.ensures (omega arith)) (there _ _ _ _ c2.corner-wraps2.ensures (omega arith))
     (there _ _ _ _ c3.corner-wraps3.ensures (omega arith)) (there _ _ _ _ c4.corner-wraps4.ensures (omega arith))
 
 pub corners-wrap-spec : {M : Type 1} → statement M

@@ -1,6 +1,6 @@
 -- Each of the four lines, joined.
 use borrow.Author.Rules.{rules}
-use Rattle.lifting.specs.Wraps.{undoWraps}
+use Rattle.lifting.specs.Wraps.{undo_wraps}
 use Rattle.lifting.proofs.AnyUse.{four-told}
 use Rattle.filters_told.proofs.edge_rows_wrap.Statement.{statement}
 use Rattle.filters_told.proofs.edge_rows_wrap.Tie as tie
@@ -10,7 +10,7 @@ returns c =
     let c3 = c.before in
     let c2 = c3.before in
     let c1 = c2.before in
-    four-told undoWraps _ _ _ _ _ c1.row-wraps.ensures c2.row-wraps2.ensures c3.row-wraps3.ensures c.row-wraps4.ensures
+    four-told undo_wraps _ _ _ _ _ c1.row-wraps.ensures c2.row-wraps2.ensures c3.row-wraps3.ensures c.row-wraps4.ensures
 
 pub edge-rows-wrap-spec : {M : Type 1} → statement M
 edge-rows-wrap-spec =

@@ -2,23 +2,23 @@
 use mathlib.Core.Path.{◌≡◌, sym, ◌∙◌}
 use mathlib.Core.Bool.{◌||◌}
 use borrow.Author.Rules.{rules}
-use Rattle.lifting.specs.Wraps.{undoWraps}
-use Rattle.lifting.specs.AnyUse.{anyUse}
-use Rattle.transform.specs.Level.{squareFilters, rowFilters, columnFilters, alongEdges, cornerFilters, filters}
+use Rattle.lifting.specs.Wraps.{undo_wraps}
+use Rattle.lifting.specs.AnyUse.{any_use}
+use Rattle.transform.specs.Level.{square_filters, row_filters, column_filters, along_edges, corner_filters, filters}
 use Rattle.transform.proofs.Told.{filters-told}
 use Rattle.filters_told.proofs.filters_wrap.Statement.{statement}
 use Rattle.filters_told.proofs.filters_wrap.Tie as tie
 
 -- what each of them says together
 stages : (s : tie.Start) → let p = s.args.p in let q = s.args.q in let v = s.args.grid.now in
-    undoWraps (filters p q) v ≡ anyUse undoWraps (squareFilters p q) v || (anyUse undoWraps (alongEdges q (rowFilters p)) v || (anyUse undoWraps (alongEdges p (columnFilters p q)) v || anyUse undoWraps (cornerFilters p q) v))
+    undo_wraps (filters p q) v ≡ any_use undo_wraps (square_filters p q) v || (any_use undo_wraps (along_edges q (row_filters p)) v || (any_use undo_wraps (along_edges p (column_filters p q)) v || any_use undo_wraps (corner_filters p q) v))
 stages s = filters-told s.args.p s.args.q s.requires.1.0 s.requires.1.2 s.args.grid.now
 
 returns : tie.Need-returns
 returns c = let w = c.before in rw (stages w.before, sym w.windows-wrap.ensures ∙ c.if1.true)
 
-returns-2 : tie.Need-returns-2
-returns-2 c =
+returns_2 : tie.Need-returns-2
+returns_2 c =
     let r = c.before in
     let w = r.before.before in
     rw (stages w.before, sym w.windows-wrap.ensures ∙ r.before.if1.false, sym r.edge-rows-wrap.ensures ∙ c.if2.true)
@@ -39,4 +39,4 @@ returns-4 c =
     c.corners-wrap.ensures
 
 pub filters-wrap-spec : {M : Type 1} → statement M
-filters-wrap-spec = tie.close (tie.spec (λ c κs. search rules) returns (λ c κs. search rules) returns-2 (λ c κs. search rules) returns-3 (λ c κs. search rules) returns-4)
+filters-wrap-spec = tie.close (tie.spec (λ c κs. search rules) returns (λ c κs. search rules) returns_2 (λ c κs. search rules) returns-3 (λ c κs. search rules) returns-4)

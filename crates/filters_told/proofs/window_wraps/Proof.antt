@@ -7,8 +7,8 @@ use Rattle.filters_told.proofs.Windows.{window-calm}
 use Rattle.filters_told.proofs.window_wraps.Statement.{statement}
 use Rattle.filters_told.proofs.window_wraps.Tie as tie
 
-returns-2 : tie.Need-returns-2
-returns-2 c =
+returns_2 : tie.Need-returns-2
+returns_2 c =
     let fourth = c.before in
     let third = fourth.before in
     let second = third.before in
@@ -22,4 +22,4 @@ returns-2 c =
 pub window-wraps-spec : {M : Type 1} → statement M
 window-wraps-spec =
     tie.close
-    (tie.spec (λ c. search rules) (λ c. search rules) (λ c. search rules) (λ c κs. (omega arith, omega arith)) (λ c κs. (omega arith, omega arith)) (λ c κs. (omega arith, omega arith)) (λ c κs. (omega arith, omega arith)) (λ c κs. search rules) (λ c. search rules) returns-2)
+    (tie.spec (λ c. search rules) (λ c. search rules) (λ c. search rules) (λ c κs. (omega arith, omega arith)) (λ c κs. (omega arith, omega arith)) (λ c κs. (omega arith, omega arith)) (λ c κs. (omega arith, omega arith)) (λ c κs. search rules) (λ c. search rules) returns_2)

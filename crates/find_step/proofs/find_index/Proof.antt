@@ -6,21 +6,21 @@ use native.Mathlib.Omega.{arith}
 use borrow.Author.Rules.{rules}
 use lib.ListN.{length}
 use Rattle.picture.specs.Planes.{planes}
-use Rattle.tries.specs.Tries.{passesBy}
+use Rattle.tries.specs.Tries.{passes_by}
 use Rattle.find_step.proofs.Search.{Searching, none-above-255, one_less, answers, none_answers}
 use Rattle.find_step.proofs.find_index.Statement.{statement}
 use Rattle.find_step.proofs.find_index.Tie as tie
 
 abbrev invariant-loop : tie.invariant-loop
 invariant-loop mode size tolerance samples dc₀ low₀ high₀ second₀ index₀ dc low high second index =
-    Searching (passesBy mode size samples tolerance) size (planes dc low high) second index
+    Searching (passes_by mode size samples tolerance) size (planes dc low high) second index
 
 abbrev decreases-loop : tie.decreases-loop
 decreases-loop mode size tolerance samples dc₀ low₀ high₀ second₀ index₀ dc low high second index = index
 
 -- which indices pass
 abbrev test : tie.Start invariant-loop decreases-loop → ℕ → Bool
-test s = passesBy s.args.mode s.args.size s.args.samples.now s.args.tolerance
+test s = passes_by s.args.mode s.args.size s.args.samples.now s.args.tolerance
 
 -- the loop's head before a try, and after the last
 abbrev head : tie.After-try-index invariant-loop decreases-loop → tie.At-loop invariant-loop decreases-loop
@@ -67,8 +67,8 @@ take-zero-requires c κs =
     let s = l.before in
     (s.requires.0, (s.requires.1.0, (l.loop.invariant.fit, l.loop.invariant.long)))
 
-returns-2 : tie.Need-returns-2 invariant-loop decreases-loop
-returns-2 c =
+returns_2 : tie.Need-returns-2 invariant-loop decreases-loop
+returns_2 c =
     let z = c.before.before.before.before in
     let l = last z in
     (none_answers (test l.before) l.loop.index (omega arith) l.loop.inv.none, (z.take-zero.ensures.0, z.take-zero.ensures.1))
@@ -94,4 +94,4 @@ find-index-spec =
     (λ c. let z = c.before.before.before.before in z.take-zero.auto.1.1.1.1.0 ∙ (begun (last z)).1)
     (λ c. let z = c.before.before.before.before in z.take-zero.auto.1.1.1.1.1.0 ∙ (begun (last z)).2)
     (λ c. let z = c.before.before.before.before in z.take-zero.auto.1.1.1.1.1.1.0 ∙ (begun (last z)).3)
-    returns-2)
+    returns_2)

@@ -6,11 +6,11 @@ use Rattle.picture.specs.declared.mode.Mode.{Mode}
 use Rattle.picture.specs.declared.size.Size.{Size}
 use Rattle.picture.specs.Sizes.{macroblocks}
 use Rattle.transform.specs.Level.{level}
-use Rattle.transform.specs.Transform.{levelOne}
+use Rattle.transform.specs.Transform.{level_one}
 use Rattle.forecast.specs.declared.LevelUses.{LevelUses}
 use Rattle.forecast.specs.declared.Work.{Work}
-use Rattle.forecast.specs.Forecast.{workBy}
-use Rattle.forecast.specs.Parts.{usesIn}
+use Rattle.forecast.specs.Forecast.{work_by}
+use Rattle.forecast.specs.Parts.{uses_in}
 use Rattle.forecast.proofs.work_of.Statement.{statement}
 use Rattle.forecast.proofs.work_of.Tie as tie
 
@@ -25,9 +25,9 @@ together one two n =
       sample_bytes = 1024 * n;
     }
 
-both : (mode : Mode) (size : Size) {one two : LevelUses} {p q n : ℕ} → one ≡ usesIn (levelOne mode size) → two ≡ usesIn (level mode.second p q)
-    → p ≡ 4 * size.width.0 → q ≡ 4 * size.height.0 → n ≡ macroblocks size → together one two n ≡ workBy mode size
-unfolding workBy
+both : (mode : Mode) (size : Size) {one two : LevelUses} {p q n : ℕ} → one ≡ uses_in (level_one mode size) → two ≡ uses_in (level mode.second p q)
+    → p ≡ 4 * size.width.0 → q ≡ 4 * size.height.0 → n ≡ macroblocks size → together one two n ≡ work_by mode size
+unfolding work_by
 both mode size e f g h k = rw (e, f, g, h, k)
 
 returns : tie.Need-returns

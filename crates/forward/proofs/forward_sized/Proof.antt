@@ -8,9 +8,9 @@ use borrow.Author.Tests.{eq-eqb, ne_eqb}
 use lib.ListN.{length}
 use Rattle.picture.specs.Sizes.{macroblocks}
 use Rattle.picture.specs.Planes.{Planes, planes}
-use Rattle.picture.specs.Numbers.{first_of, sampleCheck, planeChecks}
-use Rattle.transform.specs.Transform.{forwardBy}
-use Rattle.transform.specs.Wraps.{forwardWrapsBy}
+use Rattle.picture.specs.Numbers.{first_of, sample_check, plane_checks}
+use Rattle.transform.specs.Transform.{forward_by}
+use Rattle.transform.specs.Wraps.{forward_wraps_by}
 use Rattle.picture.proofs.NumberLaws.{settled-refused}
 use Rattle.picture.proofs.CheckLaws.{counted, planes-fit}
 use Rattle.forward.proofs.forward_sized.Statement.{statement}
@@ -28,18 +28,18 @@ long c = c.if1.false ∙ ap (λ (k : ℕ). 256 * k) c.before.before.macroblocks.
 
 -- the number of the planes' checks, and so of all
 number : (c : tie.After-check-planes) → let e = c.before.before.before.before in let s = e.before.before.before in
-    c.check-planes.result ≡ first_of (planeChecks (n s) (was s))
+    c.check-planes.result ≡ first_of (plane_checks (n s) (was s))
 number c =
     let e = c.before.before.before.before in
     let s = e.before.before.before in
-    counted (λ (k : ℕ). planeChecks k (was s)) c.check-planes.ensures e.before.before.macroblocks.ensures.0
+    counted (λ (k : ℕ). plane_checks k (was s)) c.check-planes.ensures e.before.before.macroblocks.ensures.0
 
 all : (c : tie.After-check-planes) → let e = c.before.before.before.before in let s = e.before.before.before in
-    c.check-planes.result ≡ first_of (sampleCheck (n s) s.args.samples.now ++ planeChecks (n s) (was s))
+    c.check-planes.result ≡ first_of (sample_check (n s) s.args.samples.now ++ plane_checks (n s) (was s))
 all c = let e = c.before.before.before.before in number c ∙ sym (simp (eq-eqb _ _ (long e)))
 
 abbrev told : tie.Start → Bool
-told s = forwardWrapsBy s.args.mode s.args.size s.args.samples.now
+told s = forward_wraps_by s.args.mode s.args.size s.args.samples.now
 
 returns : tie.Need-returns
 returns c =
@@ -48,11 +48,11 @@ returns c =
     let s = m.before in
     rw (c.refused.ensures.0, c.refused.ensures.1) (
       simp (ne_eqb (length s.args.samples.now) (256 * n s) (λ h. e.if1.true (h ∙ sym (ap (λ (k : ℕ). 256 * k) m.macroblocks.ensures.0)))),
-      (refl, sym (settled-refused 7 (forwardBy s.args.mode s.args.size s.args.samples.now) (was s) (λ e. search rules))),
+      (refl, sym (settled-refused 7 (forward_by s.args.mode s.args.size s.args.samples.now) (was s) (λ e. search rules))),
     )
 
-returns-2 : tie.Need-returns-2
-returns-2 c =
+returns_2 : tie.Need-returns-2
+returns_2 c =
     let f = c.before in
     let p = f.before in
     let s = p.before.before.before.before.before.before.before in
@@ -75,5 +75,5 @@ returns-3 c =
 pub forward-sized-spec : {M : Type 1} → statement M
 forward-sized-spec =
     tie.close
-    (tie.spec (λ c κs. search rules) (λ c. search rules) (λ c. search rules) (λ c κs. search rules) returns (λ c κs. search rules) (λ c κs. search rules) (λ c. search rules) (λ c. search rules) (λ c. search rules) returns-2
+    (tie.spec (λ c κs. search rules) (λ c. search rules) (λ c. search rules) (λ c κs. search rules) returns (λ c κs. search rules) (λ c κs. search rules) (λ c. search rules) (λ c. search rules) (λ c. search rules) returns_2
     asked (λ c κs. search rules) (λ c. search rules) (λ c. search rules) (λ c. search rules) returns-3)

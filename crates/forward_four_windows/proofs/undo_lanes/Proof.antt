@@ -6,15 +6,15 @@ use borrow.Author.Rules.{rules}
 use lib.ListN.{length}
 use Rattle.lifting.specs.Program.{get, undo}
 use Rattle.figures.specs.Block.{flat}
-use Rattle.figures.specs.Figures.{squareFilter}
+use Rattle.figures.specs.Figures.{square_filter}
 use Rattle.lanes.specs.Lanes.{lane_of}
-use Rattle.lanes.proofs.Beside.{Beside, beside-more}
+use Rattle.lanes.proofs.Beside.{Beside, beside_more}
 use Rattle.forward_four_windows.proofs.Moved.{length-square}
 use Rattle.forward_four_windows.proofs.undo_lanes.Statement.{statement}
 use Rattle.forward_four_windows.proofs.undo_lanes.Tie as tie
 
 abbrev invariant-loop : tie.invariant-loop
-invariant-loop a b c d out₀ l₀ out l = (l ≤ 4) × (length out ≡ 64) × Beside (λ j. undo squareFilter (lane_of a b c d j)) l out
+invariant-loop a b c d out₀ l₀ out l = (l ≤ 4) × (length out ≡ 64) × Beside (λ j. undo square_filter (lane_of a b c d j)) l out
 
 abbrev decreases-loop : tie.decreases-loop
 decreases-loop a b c d out₀ l₀ out l = 4 - l
@@ -37,7 +37,7 @@ loop-again c =
     let its = lane_of r.a.now r.b.now r.c.now r.d.now in (
       omega arith,
       omega arith,
-      beside-more (λ j. undo squareFilter (its j)) l.loop.l l.loop.out (flat made.undo-square-filter.result) _ (omega arith) v.1 (made.undo-square-filter.ensures ∙ ap (undo squareFilter) {y = its l.loop.l} read.lane.ensures)
+      beside_more (λ j. undo square_filter (its j)) l.loop.l l.loop.out (flat made.undo-square-filter.result) _ (omega arith) v.1 (made.undo-square-filter.ensures ∙ ap (undo square_filter) {y = its l.loop.l} read.lane.ensures)
           (length-square (its l.loop.l) refl) put.put-square.ensures v.2,
     )
 

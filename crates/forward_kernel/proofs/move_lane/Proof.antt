@@ -1,6 +1,6 @@
 -- Four fours, of which the second begins with the last number of the first.
 use borrow.Author.Rules.{rules}
-use Rattle.forward_kernel.proofs.Stores.{lane-moved}
+use Rattle.forward_kernel.proofs.Stores.{lane_moved}
 use Rattle.forward_kernel.proofs.move_lane.Statement.{statement}
 use Rattle.forward_kernel.proofs.move_lane.Tie as tie
 
@@ -15,7 +15,7 @@ returns c =
     let g = f'.before.before.before in
     let g' = g.before in
     let s = g'.before.before in
-    lane-moved s.args.l s.args.from s.args.out.now s.args.rest.now g'.get-four.result f'.get-four2.result e'.get-four3.result d'.get-four4.result s.requires.1 g'.get-four.ensures f'.get-four2.ensures e'.get-four3.ensures d'.get-four4.ensures g.put_four.ensures f.put-four2.ensures e.put-four3.ensures d.put-four4.ensures
+    lane_moved s.args.l s.args.from s.args.out.now s.args.rest.now g'.get-four.result f'.get-four2.result e'.get-four3.result d'.get-four4.result s.requires.1 g'.get-four.ensures f'.get-four2.ensures e'.get-four3.ensures d'.get-four4.ensures g.put_four.ensures f.put-four2.ensures e.put-four3.ensures d.put-four4.ensures
 
 pub move-lane-spec : {M : Type 1} → statement M
 move-lane-spec =

@@ -1,7 +1,7 @@
 -- Held in lanes, undone lane by lane, and moved out.
 use borrow.Author.Rules.{rules}
-use Rattle.lanes.proofs.Rows.{lanes-held}
-use Rattle.forward_kernel.proofs.Stores.{zeros_of, lanes-of}
+use Rattle.lanes.proofs.Rows.{lanes_held}
+use Rattle.forward_kernel.proofs.Stores.{zeros_of, lanes_of}
 use Rattle.forward_kernel.proofs.undo_four_cores.Statement.{statement}
 use Rattle.forward_kernel.proofs.undo_four_cores.Tie as tie
 
@@ -14,9 +14,9 @@ returns c =
     let second = third.before.before.before in
     let first = second.before.before.before in
     let a = first.before.before.args in
-    let held = lanes-held a.grid.now _ _ _ _ a.w a.at first.hold.ensures second.hold2.ensures third.hold3.ensures fourth.hold4.ensures in
+    let held = lanes_held a.grid.now _ _ _ _ a.w a.at first.hold.ensures second.hold2.ensures third.hold3.ensures fourth.hold4.ensures in
     let done = undone.undo-lanes.ensures in
-    (zeros_of a.grid.now a.w a.at _ _ _ held done, moved.move-lanes.ensures _ (lanes-of a.grid.now a.w a.at _ _ _ held done))
+    (zeros_of a.grid.now a.w a.at _ _ _ held done, moved.move-lanes.ensures _ (lanes_of a.grid.now a.w a.at _ _ _ held done))
 
 pub undo-four-cores-spec : {M : Type 1} → statement M
 undo-four-cores-spec =

@@ -1,12 +1,12 @@
 -- Four numbers of the top row, and three rows of four.
 use Rattle.grid.proofs.Squares.{square-rows}
-use Rattle.forward_kernel.specs.Placed.{blockIn}
+use Rattle.forward_kernel.specs.Placed.{block_in}
 use borrow.Author.Rules.{rules}
 use Rattle.forward_one_cores.proofs.get_block.Statement.{statement}
 use Rattle.forward_one_cores.proofs.get_block.Tie as tie
 
 returns : tie.Need-returns
-unfolding blockIn
+unfolding block_in
 returns c =
     let g2 = c.before in
     let g1 = g2.before in

@@ -3,14 +3,14 @@ use Prim.Native.Nat.{◌+◌, ◌-◌, ◌≤◌}
 use mathlib.Core.Path.{◌≡◌, sym, ◌∙◌}
 use native.Mathlib.Omega.{arith}
 use lib.ListN.{length}
-use Rattle.lanes.proofs.Beside.{Beside, beside-more}
-use Rattle.forward_kernel.specs.Placed.{blockIn}
+use Rattle.lanes.proofs.Beside.{Beside, beside_more}
+use Rattle.forward_kernel.specs.Placed.{block_in}
 use Rattle.forward_one_cores.proofs.Stores.{length-block}
 use Rattle.forward_one_cores.proofs.get_blocks.Statement.{statement}
 use Rattle.forward_one_cores.proofs.get_blocks.Tie as tie
 
 abbrev invariant-loop : tie.invariant-loop
-invariant-loop dc low t from n held₀ l₀ held l = (l ≤ n) × (length held ≡ 64) × Beside (λ m. blockIn dc low (t + m)) l held
+invariant-loop dc low t from n held₀ l₀ held l = (l ≤ n) × (length held ≡ 64) × Beside (λ m. block_in dc low (t + m)) l held
 
 abbrev decreases-loop : tie.decreases-loop
 decreases-loop dc low t from n held₀ l₀ held l = n - l
@@ -21,7 +21,7 @@ loop-again c =
     let g = d.before in
     let l = g.before.before.before in
     let v = l.loop.invariant in
-    (omega arith, d.put-square.auto.0 ∙ v.1, beside-more _ l.loop.l _ _ _ (omega arith) v.1 g.get-block.ensures (length-block _ _ _) d.put-square.ensures v.2)
+    (omega arith, d.put-square.auto.0 ∙ v.1, beside_more _ l.loop.l _ _ _ (omega arith) v.1 g.get-block.ensures (length-block _ _ _) d.put-square.ensures v.2)
 
 pub get-blocks-spec : {M : Type 1} → statement M
 get-blocks-spec =

@@ -6,8 +6,8 @@ use lib.ListN.{set, length-set}
 use Rattle.lifting.specs.Program.{at}
 use Rattle.lifting.proofs.Bits.{back}
 use Rattle.forward_kernel.specs.Placed.{Placed}
-use Rattle.forward_kernel.proofs.Stores.{placed-none, placed-next, placed-up-to}
-use Rattle.forward_one_cores.proofs.Stores.{block-moved}
+use Rattle.forward_kernel.proofs.Stores.{placed_none, placed_next, placed_up_to}
+use Rattle.forward_one_cores.proofs.Stores.{block_moved}
 use Rattle.forward_one_cores.proofs.move_block.Statement.{statement}
 use Rattle.forward_one_cores.proofs.move_block.Tie as tie
 
@@ -21,15 +21,15 @@ loop-again : tie.Need-loop-preserved invariant-loop decreases-loop
 loop-again c =
     let l = c.before.before in
     let s = l.before.before in
-    (omega arith, placed-next s.args.to l.loop.k _ (s.args.to + l.loop.k) refl (omega (arith, s.requires.1)) (back c.low.given) l.loop.invariant.1)
+    (omega arith, placed_next s.args.to l.loop.k _ (s.args.to + l.loop.k) refl (omega (arith, s.requires.1)) (back c.low.given) l.loop.invariant.1)
 
 returns : tie.Need-returns invariant-loop decreases-loop
 returns c =
     let l = c.before in
     let s = l.before.before in
-    block-moved _ _ s.args.dc.now s.args.l s.args.t (omega (arith, s.requires.1.0.of-dc)) (ap (set s.args.dc.now s.args.t) (back l.before.dc.given)) (rw (s.requires.0.1, s.requires.1.1) at (placed-up-to l.loop.k 15 (omega arith) l.loop.invariant.1))
+    block_moved _ _ s.args.dc.now s.args.l s.args.t (omega (arith, s.requires.1.0.of-dc)) (ap (set s.args.dc.now s.args.t) (back l.before.dc.given)) (rw (s.requires.0.1, s.requires.1.1) at (placed_up_to l.loop.k 15 (omega arith) l.loop.invariant.1))
 
 pub move-block-spec : {M : Type 1} → statement M
 move-block-spec =
     tie.close
-    (tie.spec invariant-loop decreases-loop (λ c. omega arith) (λ c. omega arith) (λ c. omega arith) (λ c. omega arith) (λ c. (omega arith, placed-none _ _ _)) (λ c. omega arith) (λ c. omega arith) (λ c. omega arith) (λ c. omega arith) (λ c. omega arith) (λ c. omega arith) (λ c. omega arith) (λ c. omega arith) loop-again (λ c. simp length-set) (λ c. omega arith) returns)
+    (tie.spec invariant-loop decreases-loop (λ c. omega arith) (λ c. omega arith) (λ c. omega arith) (λ c. omega arith) (λ c. (omega arith, placed_none _ _ _)) (λ c. omega arith) (λ c. omega arith) (λ c. omega arith) (λ c. omega arith) (λ c. omega arith) (λ c. omega arith) (λ c. omega arith) (λ c. omega arith) loop-again (λ c. simp length-set) (λ c. omega arith) returns)

@@ -5,17 +5,17 @@ use native.Mathlib.Omega.{arith}
 use lib.ListN.{length}
 use Rattle.lifting.specs.Program.{undo}
 use Rattle.figures.specs.Figures.{core}
-use Rattle.forward_kernel.specs.Placed.{blockIn}
+use Rattle.forward_kernel.specs.Placed.{block_in}
 use Rattle.forward_one_cores.specs.Blocks.{Replaced}
-use Rattle.forward_one_cores.proofs.Stores.{replaced-none, replaced-as, replaced-in-place}
-use Rattle.forward_one_cores.proofs.Whole.{all-undone}
+use Rattle.forward_one_cores.proofs.Stores.{replaced_none, replaced_as, replaced_in_place}
+use Rattle.forward_one_cores.proofs.Whole.{all_undone}
 use Rattle.forward_one_cores.proofs.undo_cores.Statement.{statement}
 use Rattle.forward_one_cores.proofs.undo_cores.Tie as tie
 
 abbrev invariant-loop : tie.invariant-loop
 invariant-loop dc₀ low₀ all t₀ from₀ dc low t from =
     (t ≤ all) × (length dc ≡ length dc₀) × (length low ≡ length low₀)
-    × Replaced 0 t (λ s. undo core (blockIn dc₀ low₀ s)) (blockIn dc₀ low₀) (blockIn dc low) × (from ≡ 15 * t)
+    × Replaced 0 t (λ s. undo core (block_in dc₀ low₀ s)) (block_in dc₀ low₀) (block_in dc low) × (from ≡ 15 * t)
 
 abbrev decreases-loop : tie.decreases-loop
 decreases-loop dc₀ low₀ all t₀ from₀ dc low t from = all - t
@@ -39,7 +39,7 @@ loop-again c =
       omega (arith, g.group.ensures.1),
       k.0 ∙ v.1,
       k.1.0 ∙ v.2,
-      replaced-in-place (undo core) v.3 (replaced-as (0 + l.loop.t) _ _ (omega arith) refl (λ s h m. refl) d.undo-group.ensures),
+      replaced_in_place (undo core) v.3 (replaced_as (0 + l.loop.t) _ _ (omega arith) refl (λ s h m. refl) d.undo-group.ensures),
       omega (arith, v.4),
     )
 
@@ -48,12 +48,12 @@ returns c =
     let l = c.before in
     let s = l.before in
     let p = s.requires in
-    all-undone p.sized.wide s.args.size.height.0 p.sized.tall s.args.dc.now s.args.low.now _ _ (λ m h. l.loop.invariant.3.own m (omega arith) (omega (arith, h, p.of-dc)))
+    all_undone p.sized.wide s.args.size.height.0 p.sized.tall s.args.dc.now s.args.low.now _ _ (λ m h. l.loop.invariant.3.own m (omega arith) (omega (arith, h, p.of-dc)))
 
 pub undo-cores-spec : {M : Type 1} → statement M
 undo-cores-spec =
     tie.close
-    (tie.spec invariant-loop decreases-loop (λ c. (omega arith, refl, refl, replaced-none _ _ _, omega arith)) (λ c. omega arith) (λ c κs. tt) asked
+    (tie.spec invariant-loop decreases-loop (λ c. (omega arith, refl, refl, replaced_none _ _ _, omega arith)) (λ c. omega arith) (λ c κs. tt) asked
     (λ c. let g = c.before.before.before.before.before in omega (arith, g.group.ensures.1))
     (λ c. let g = c.before.before.before.before.before in omega (arith, g.group.ensures.0))
     (λ c. let g = c.before.before.before.before.before in omega (arith, g.group.ensures.1, g.before.before.loop.invariant.4))

@@ -12,8 +12,8 @@ returns c =
     let s = d.before in
     back c.result.given ∙ dc-read s.requires.0.sized.wide s.args.size.height.0 s.args.dc.now s.args.low.now s.args.t s.args.k s.requires.1.0 d.if1.true
 
-returns-2 : tie.Need-returns-2
-returns-2 c =
+returns_2 : tie.Need-returns-2
+returns_2 c =
     let d = c.before in
     let s = d.before in
     back c.result2.given ∙ low_read s.requires.0.sized.wide s.args.size.height.0 s.args.dc.now s.args.low.now s.args.t s.args.k s.requires.1.0 s.requires.1.1 d.if1.false
@@ -21,4 +21,4 @@ returns-2 c =
 pub number-spec : {M : Type 1} → statement M
 number-spec =
     tie.close
-    (tie.spec (λ c. search rules) (λ c. search rules) returns (λ c. search rules) (λ c. search rules) (λ c. search rules) (λ c. search rules) (λ c. search rules) returns-2)
+    (tie.spec (λ c. search rules) (λ c. search rules) returns (λ c. search rules) (λ c. search rules) (λ c. search rules) (λ c. search rules) (λ c. search rules) returns_2)

@@ -13,8 +13,8 @@ returns c =
     rw (to_z-of_z w32 _ s.ranges.x)
     (dc-stored s.requires.0.sized.wide s.args.size.height.0 s.args.dc.now s.args.low.now s.args.t s.args.k s.requires.1.0 _ c.if1.true (omega (arith, s.requires)))
 
-returns-2 : tie.Need-returns-2
-returns-2 c =
+returns_2 : tie.Need-returns-2
+returns_2 c =
     let s = c.before in
     rw (to_z-of_z w32 _ s.ranges.x)
     (low-stored s.requires.0.sized.wide s.args.size.height.0 s.args.dc.now s.args.low.now s.args.t s.args.k s.requires.1.0 _ s.requires.1.1 c.if1.false (omega (arith, s.requires, c.if1.false)))
@@ -22,4 +22,4 @@ returns-2 c =
 pub put-number-spec : {M : Type 1} → statement M
 put-number-spec =
     tie.close
-    (tie.spec (λ c. search rules) (λ c. search rules) (λ c. search rules) returns (λ c. search rules) (λ c. search rules) (λ c. search rules) (λ c. search rules) (λ c. search rules) (λ c. search rules) returns-2)
+    (tie.spec (λ c. search rules) (λ c. search rules) (λ c. search rules) returns (λ c. search rules) (λ c. search rules) (λ c. search rules) (λ c. search rules) (λ c. search rules) (λ c. search rules) returns_2)

@@ -6,7 +6,7 @@ use lib.ListN.{length, length-set}
 use Rattle.lifting.proofs.Bits.{back}
 use Rattle.forward_two_edges.specs.Strip.{Kept}
 use Rattle.forward_two_edges.proofs.Strips.{kept-none}
-use Rattle.forward_two.proofs.Joined.{CarriedUpTo, carry-more}
+use Rattle.forward_two.proofs.Joined.{CarriedUpTo, carry_more}
 use Rattle.forward_two.proofs.carry.Statement.{statement}
 use Rattle.forward_two.proofs.carry.Tie as tie
 
@@ -39,7 +39,7 @@ loop-again c =
     let one = c.before in
     let l = one.before.before in
     let v = l.loop.invariant in
-    let e = carry-more l.loop.y l.loop.row l.before.args.strip.now l.loop.strip _ _ v.3 (omega arith) (long l) (back one.strip.given) (back c.strip2.given) v.1 v.2 in
+    let e = carry_more l.loop.y l.loop.row l.before.args.strip.now l.loop.strip _ _ v.3 (omega arith) (long l) (back one.strip.given) (back c.strip2.given) v.1 v.2 in
     (omega arith, e.0, e.1, omega (arith, v.3))
 
 same_length : tie.Need-same-length invariant-loop decreases-loop

@@ -3,15 +3,15 @@ use Prim.Native.Nat.{ℕ, ◌+◌, ◌-◌, ◌*◌, ◌/◌, ◌%◌, ◌≤◌
 use mathlib.Core.Path.{◌≡◌, refl}
 use native.Mathlib.Omega.{arith}
 use lib.ListN.{length}
-use Rattle.forward_two_cores.specs.Blocks.{block_of, undoneIn, Among}
-use Rattle.forward_two.proofs.Joined.{cores-more}
+use Rattle.forward_two_cores.specs.Blocks.{block_of, undone_in, Among}
+use Rattle.forward_two.proofs.Joined.{cores_more}
 use Rattle.forward_two.proofs.cores.Statement.{statement}
 use Rattle.forward_two.proofs.cores.Tie as tie
 
 abbrev invariant-loop : tie.invariant-loop
 invariant-loop strip dc₀ low₀ high₀ cells n b₀ dc low high b =
     (b ≤ n) × (length dc ≡ length dc₀) × (length low ≡ length low₀) × (length high ≡ length high₀)
-    × ((t i : ℕ) → i < b → t / 16 ≡ cells.dc + i → block_of dc low high t ≡ undoneIn 72 (16 * i) strip (t % 16)) × ((t : ℕ) → (Among cells.dc (cells.dc + b) t → ⊥) → block_of dc low high t ≡ block_of dc₀ low₀ high₀ t)
+    × ((t i : ℕ) → i < b → t / 16 ≡ cells.dc + i → block_of dc low high t ≡ undone_in 72 (16 * i) strip (t % 16)) × ((t : ℕ) → (Among cells.dc (cells.dc + b) t → ⊥) → block_of dc low high t ≡ block_of dc₀ low₀ high₀ t)
 
 abbrev decreases-loop : tie.decreases-loop
 decreases-loop strip dc₀ low₀ high₀ cells n b₀ dc low high b = n - b
@@ -37,7 +37,7 @@ loop-again c =
     let l = test.before in
     let a = l.before.args in
     let v = l.loop.invariant in
-    let e = cores-more a.cells.dc l.loop.b (λ i k. undoneIn 72 (16 * i) a.strip.now k) (rw d.before.after.ensures.0 at d.undo-macroblock.ensures) v.4 v.5 in
+    let e = cores_more a.cells.dc l.loop.b (λ i k. undone_in 72 (16 * i) a.strip.now k) (rw d.before.after.ensures.0 at d.undo-macroblock.ensures) v.4 v.5 in
     (omega (arith, test.loop-test), omega arith, omega arith, omega arith, e.0, e.1)
 
 same_length : tie.Need-same-length invariant-loop decreases-loop

@@ -2,8 +2,8 @@
 use mathlib.Core.Path.{◌∙◌}
 use native.Mathlib.Omega.{arith}
 use Rattle.forward_two_cores.specs.Blocks.{block_of}
-use Rattle.forward_two_edges.proofs.Strips.{given-of}
-use Rattle.forward_two.proofs.Joined.{group-inside, columns-carried, group-through}
+use Rattle.forward_two_edges.proofs.Strips.{given_of}
+use Rattle.forward_two.proofs.Joined.{group_inside, columns_carried, group_through}
 use borrow.Author.Rules.{rules}
 use Rattle.forward_two.proofs.group.Statement.{statement}
 use Rattle.forward_two.proofs.group.Tie as tie
@@ -17,7 +17,7 @@ upper-requires c κs =
     let s = f.before.before in
     let g = s.requires.0 in
     let h = s.requires.1.1 in
-    (given-of g f.fill.ensures.1, (h.0, (h.1.1.0, (h.1.0.top, ((s.requires.1.0.1, s.requires.1.0.2), (f.fill.ensures.0, h.1.1.1.1))))))
+    (given_of g f.fill.ensures.1, (h.0, (h.1.1.0, (h.1.0.top, ((s.requires.1.0.1, s.requires.1.0.2), (f.fill.ensures.0, h.1.1.1.1))))))
 
 cores-requires : tie.Need-cores-requires
 cores-requires c κs =
@@ -26,7 +26,7 @@ cores-requires c κs =
     let a = s.args in
     let h = s.requires.1.1 in
     let m = s.requires.1.0 in
-    ((u.upper.ensures.1.1, h.1.1.0.1), (m.2, group-inside a.size a.r a.c a.n a.cells m.1 m.2 s.requires.0.below h.1.1.0.2 h.0))
+    ((u.upper.ensures.1.1, h.1.1.0.1), (m.2, group_inside a.size a.r a.c a.n a.cells m.1 m.2 s.requires.0.below h.1.1.0.2 h.0))
 
 lower-requires : tie.Need-lower-requires
 lower-requires c κs =
@@ -49,9 +49,9 @@ returns c =
     let g = s.requires.0 in
     let h = s.requires.1.1.1.1 in
     let W = a.size.width.0 in (
-      group-through a.size a.samples.now g.sized.wide a.r a.c a.n g.below h.0.2 (block_of a.dc.now a.low.now a.high.now) _ _ a.cells.dc s.requires.1.0.1 h.0.1 u.upper.ensures.0 h.1.1 k.cores.ensures.0 k.cores.ensures.1
+      group_through a.size a.samples.now g.sized.wide a.r a.c a.n g.below h.0.2 (block_of a.dc.now a.low.now a.high.now) _ _ a.cells.dc s.requires.1.0.1 h.0.1 u.upper.ensures.0 h.1.1 k.cores.ensures.0 k.cores.ensures.1
           l.lower.ensures.own l.lower.ensures.others,
-      (λ e f. columns-carried a.size a.samples.now g.sized.wide a.r a.c a.n g.below h.0.2 a.first e f u.upper.ensures.1.0, u.upper.ensures.1.1),
+      (λ e f. columns_carried a.size a.samples.now g.sized.wide a.r a.c a.n g.below h.0.2 a.first e f u.upper.ensures.1.0, u.upper.ensures.1.1),
     )
 
 pub group-spec : {M : Type 1} → statement M

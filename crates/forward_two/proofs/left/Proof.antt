@@ -14,8 +14,8 @@ edge-columns-requires c κs =
     let none : s.args.c ≡ 0 = omega (arith, t.if1) in
     (s.requires.0, (s.requires.1.0, (s.requires.1.1.0, (omega arith, inl (omega (arith, none))))))
 
-returns-2 : tie.Need-returns-2
-returns-2 c =
+returns_2 : tie.Need-returns-2
+returns_2 c =
     let d = c.before in
     let t = d.before.before in
     let s = t.before in
@@ -25,4 +25,4 @@ returns-2 c =
 pub left-spec : {M : Type 1} → statement M
 left-spec =
     tie.close
-    (tie.spec edge-columns-requires (λ c. search rules) (λ c. search rules) (λ c κs. search rules) (λ c. search rules) returns-2)
+    (tie.spec edge-columns-requires (λ c. search rules) (λ c. search rules) (λ c κs. search rules) (λ c. search rules) returns_2)

@@ -1,9 +1,9 @@
 -- Below the last row of macroblocks there is none.
 use Prim.Native.Nat.{◌+◌, ◌*◌, ◌≤◌}
 use native.Mathlib.Omega.{arith}
-use Rattle.picture.proofs.CheckLaws.{few-macroblocks}
+use Rattle.picture.proofs.CheckLaws.{few_macroblocks}
 use Rattle.grid.proofs.Rows.{row_inside}
-use Rattle.forward_two.proofs.Joined.{group-inside, last_row, not_last, none_below}
+use Rattle.forward_two.proofs.Joined.{group_inside, last_row, not_last, none_below}
 use borrow.Author.Rules.{rules}
 use Rattle.forward_two.proofs.lower.Statement.{statement}
 use Rattle.forward_two.proofs.lower.Tie as tie
@@ -19,7 +19,7 @@ after-requires c κs =
     let s = c.before.before.before.before.before in
     let a = s.args in
     let m = s.requires.1.0 in
-    (m.1, omega (arith, m, s.requires.1.1.0, few-macroblocks s.requires.0.0, row_inside a.r a.size.height.0 a.size.width.0 s.requires.0.1))
+    (m.1, omega (arith, m, s.requires.1.1.0, few_macroblocks s.requires.0.0, row_inside a.r a.size.height.0 a.size.width.0 s.requires.0.1))
 
 park-requires : tie.Need-park-requires
 park-requires c κs =
@@ -29,10 +29,10 @@ park-requires c κs =
     let h = s.requires.1.1 in
     let e = c.after.ensures in
     let below = not_last a.down a.r a.size.height.0 h.1.1 (λ e. omega (arith, e, t.if1)) in
-    (e.1, (group-inside a.size (a.r + 1) a.c a.n c.after.result (omega (arith, e.0, s.requires.1.0.0)) e.1 below h.0.2 h.1.0, (h.0.1, h.0.0)))
+    (e.1, (group_inside a.size (a.r + 1) a.c a.n c.after.result (omega (arith, e.0, s.requires.1.0.0)) e.1 below h.0.2 h.1.0, (h.0.1, h.0.0)))
 
-returns-2 : tie.Need-returns-2
-returns-2 c =
+returns_2 : tie.Need-returns-2
+returns_2 c =
     let d = c.before.before.before in
     let e = d.park.ensures in
     let at = d.before.before.before.before.before.before.before.requires.1.0.0 in
@@ -42,4 +42,4 @@ returns-2 c =
 pub lower_spec : {M : Type 1} → statement M
 lower_spec =
     tie.close
-    (tie.spec returns (λ c. search rules) after-requires park-requires (λ c. search rules) (λ c. search rules) (λ c. search rules) returns-2)
+    (tie.spec returns (λ c. search rules) after-requires park-requires (λ c. search rules) (λ c. search rules) (λ c. search rules) returns_2)

@@ -3,13 +3,13 @@ use Prim.Native.Nat.{◌+◌, ◌*◌, ◌<◌, ◌≤◌}
 use mathlib.Core.Path.{◌∙◌}
 use native.Mathlib.Omega.{arith}
 use Rattle.picture.specs.Sizes.{macroblocks}
-use Rattle.forward_two_edges.proofs.Strips.{given-of, place-low, holds_kept, kept-as, kept_then, first-place, rows-first, rows-down, rows_above, rows-below, three-rows}
+use Rattle.forward_two_edges.proofs.Strips.{given_of, place-low, holds_kept, kept_as, kept_then, first-place, rows-first, rows_down, rows_above, rows-below, three_rows}
 use borrow.Author.Rules.{rules}
 use Rattle.forward_two.proofs.middle.Statement.{statement}
 use Rattle.forward_two.proofs.middle.Tie as tie
 
 ends : (s : tie.Start) → let a = s.args in (3 ≤ a.down) × (a.down ≤ 4) × (4 * a.r + a.down < 4 * a.size.height.0)
-ends s = rows-down s.requires.0.below s.requires.1.1.0
+ends s = rows_down s.requires.0.below s.requires.1.1.0
 
 -- the first sample of the windows is one of the picture's
 low : (s : tie.Start) → let a = s.args in (a.at + 2 * (16 * a.size.width.0) < 256 * macroblocks a.size) × (256 * macroblocks a.size ≤ 55507200)
@@ -33,7 +33,7 @@ windows-requires c κs =
     let s = m.before in
     let g = s.requires.0 in
     let h = s.requires.1.1 in
-    (given-of g (d.edge-rows.ensures.1.len ∙ g.of-strip), ((omega (arith, s.requires.1.0, m.samples.ensures.0, b.below.ensures), omega (arith, b.below.ensures)), (((ends s).1, h.1.0), ((ends s).2, h.1.1))))
+    (given_of g (d.edge-rows.ensures.1.len ∙ g.of-strip), ((omega (arith, s.requires.1.0, m.samples.ensures.0, b.below.ensures), omega (arith, b.below.ensures)), (((ends s).1, h.1.0), ((ends s).2, h.1.1))))
 
 mul-edge-rows : tie.Need-overflow-mul-edge-rows
 mul-edge-rows c = omega (arith, ends c.before.before.before.before.before.before.before.before.before)
@@ -48,7 +48,7 @@ edge-rows-requires-2 c κs =
     let s = d.before.before.before.before.before in
     let g = s.requires.0 in
     let h = s.requires.1.1 in
-    (given-of g (e.windows.ensures.1.0.len ∙ d.edge-rows.ensures.1.len ∙ g.of-strip), (λ k. e.windows.ensures.1.1, ((omega arith, h.1.0, h.1.1), rows-below g.below h.0)))
+    (given_of g (e.windows.ensures.1.0.len ∙ d.edge-rows.ensures.1.len ∙ g.of-strip), (λ k. e.windows.ensures.1.1, ((omega arith, h.1.0, h.1.1), rows-below g.below h.0)))
 
 returns : tie.Need-returns
 returns c =
@@ -66,9 +66,9 @@ returns c =
     holds_kept a.r a.c a.first 2 2 k end 16 2 k few (λ y x g h i j l m o p. absurd (omega (arith, n, h, l)))
     (holds_kept a.r a.c a.first 2 2 k 2 end 2 72 few (λ y x g h i j l m o p. absurd (omega (arith, h, l))) d.edge-rows.ensures.0 e.windows.ensures.1.0) f.edge-rows2.ensures.1 in
     let windows = holds_kept a.r a.c 2 end 2 k end 16 2 k few (λ y x g h i j l m o p. absurd (omega (arith, h, l))) e.windows.ensures.0 f.edge-rows2.ensures.1 in (
-      three-rows s.requires.0.below s.requires.1.1.0 a.c 2 k above windows f.edge-rows2.ensures.0,
-      kept_then (kept-as a.first 18 2 72 (omega arith) (omega arith) (omega arith) few d.edge-rows.ensures.1)
-          (kept_then (kept-as a.first 18 2 72 first (omega (arith, n)) (omega arith) (omega arith) e.windows.ensures.1.0) (kept-as a.first 18 2 72 (omega (arith, n, first)) (omega arith) (omega arith) few f.edge-rows2.ensures.1)),
+      three_rows s.requires.0.below s.requires.1.1.0 a.c 2 k above windows f.edge-rows2.ensures.0,
+      kept_then (kept_as a.first 18 2 72 (omega arith) (omega arith) (omega arith) few d.edge-rows.ensures.1)
+          (kept_then (kept_as a.first 18 2 72 first (omega (arith, n)) (omega arith) (omega arith) e.windows.ensures.1.0) (kept_as a.first 18 2 72 (omega (arith, n, first)) (omega arith) (omega arith) few f.edge-rows2.ensures.1)),
     )
 
 pub middle-spec : {M : Type 1} → statement M

@@ -8,14 +8,14 @@ use borrow.Author.Rules.{rules}
 use lib.ListN.{length}
 use Rattle.grid.proofs.Rows.{row_inside}
 use Rattle.large_numbers.specs.Small.{Small}
-use Rattle.large_numbers.proofs.Small.{neither, small-none, small-up-to, small-part, small-within}
+use Rattle.large_numbers.proofs.Small.{neither, small-none, small_up_to, small_part, small-within}
 use Rattle.forward_two_cores.specs.Cells.{OfOne}
-use Rattle.forward_two_cores.specs.Blocks.{block_of, squareIn}
-use Rattle.forward_two_cores.proofs.Whole.{sample-block, second-undone}
+use Rattle.forward_two_cores.specs.Blocks.{block_of, square_in}
+use Rattle.forward_two_cores.proofs.Whole.{sample_block, second_undone_lem}
 use Rattle.forward_two_edges.specs.Unfiltered.{unfiltered}
 use Rattle.forward_two_edges.proofs.Strips.{place-low}
 use Rattle.forward_two.specs.Strips.{Through, Planes}
-use Rattle.forward_two.proofs.Joined.{through-none, through-as}
+use Rattle.forward_two.proofs.Joined.{through_none, through_as}
 use Rattle.forward_two.proofs.Levels.{as_many}
 use Rattle.forward_two.proofs.undo_filtered.Statement.{statement}
 use Rattle.forward_two.proofs.undo_filtered.Tie as tie
@@ -30,7 +30,7 @@ abbrev decreases-loop : tie.decreases-loop
 decreases-loop size samples dc₀ low₀ high₀ across height w strip₀ large₀ at₀ cells₀ r₀ dc low high strip large at cells r = size.height.0 - r
 
 loop-holds : tie.Need-loop-init invariant-loop decreases-loop
-loop-holds c = let s = c.before.before.before.before in let a = s.args in (omega arith, s.requires.1, refl, through-as (0 * a.size.width.0) (omega arith) (through-none a.size a.samples.now (block_of a.dc.now a.low.now a.high.now)), omega arith, omega arith, (omega arith, omega arith), λ e. small-none a.samples.now (omega arith))
+loop-holds c = let s = c.before.before.before.before in let a = s.args in (omega arith, s.requires.1, refl, through_as (0 * a.size.width.0) (omega arith) (through_none a.size a.samples.now (block_of a.dc.now a.low.now a.high.now)), omega arith, omega arith, (omega arith, omega arith), λ e. small-none a.samples.now (omega arith))
 
 undo-row-requires : tie.Need-undo-row-requires invariant-loop decreases-loop
 undo-row-requires c κs =
@@ -88,11 +88,11 @@ loop-again c =
       omega (arith, test.loop-test),
       record { of-dc = k.1.1.1.1.0 ∙ v.1.of-dc; of_low = k.1.1.1.1.1.0 ∙ v.1.of_low; of-high = k.1.1.1.1.1.1.0 ∙ v.1.of-high },
       d.undo-row.ensures.1,
-      through-as ((l.loop.r + 1) * W) (sym (add-mul l.loop.r 1 W ∙ omega arith)) d.undo-row.ensures.0,
+      through_as ((l.loop.r + 1) * W) (sym (add-mul l.loop.r 1 W ∙ omega arith)) d.undo-row.ensures.0,
       omega (arith, v.4),
       omega (arith, v.5, c.after.ensures.0),
       c.after.ensures.1,
-      neither (small-up-to a.samples.now (omega arith) (omega arith)) v.7 looked.some-large.ensures.0,
+      neither (small_up_to a.samples.now (omega arith) (omega arith)) v.7 looked.some-large.ensures.0,
     )
 
 same_length : tie.Need-same-length invariant-loop decreases-loop
@@ -115,9 +115,9 @@ returns c =
     let u = unfiltered a.size a.samples.now in
     let all : l.loop.r ≡ H = omega (arith, c.loop-test, l.loop.invariant.0) in
     let most : l.loop.r * W ≡ W * H = ap (λ (r : ℕ). r * W) all ∙ omega arith in (
-      second-undone z.wide H z.tall (squareIn W u) l.loop.dc l.loop.low l.loop.high u (as_many a.size a.samples.now z.wide z.tall ∙ s.requires.0.1)
-          (λ b h. sample-block z.wide H z.tall u b) (λ t h. l.loop.invariant.3.done t (omega (arith, most, h))),
-      λ e. small-within a.samples.now (small-part a.samples.now (l.loop.invariant.7 e) (omega arith) (omega (arith, most, l.loop.invariant.4, s.requires.0.1))),
+      second_undone_lem z.wide H z.tall (square_in W u) l.loop.dc l.loop.low l.loop.high u (as_many a.size a.samples.now z.wide z.tall ∙ s.requires.0.1)
+          (λ b h. sample_block z.wide H z.tall u b) (λ t h. l.loop.invariant.3.done t (omega (arith, most, h))),
+      λ e. small-within a.samples.now (small_part a.samples.now (l.loop.invariant.7 e) (omega arith) (omega (arith, most, l.loop.invariant.4, s.requires.0.1))),
     )
 
 pub undo-filtered-spec : {M : Type 1} → statement M

@@ -7,7 +7,7 @@ use lib.ListN.{length}
 use Rattle.forward_two_cores.specs.Blocks.{block_of}
 use Rattle.forward_two_edges.proofs.Strips.{place-low}
 use Rattle.forward_two.specs.Strips.{Carried, Through, Planes}
-use Rattle.forward_two.proofs.Joined.{through-as}
+use Rattle.forward_two.proofs.Joined.{through_as}
 use Rattle.forward_two.proofs.undo_row.Statement.{statement}
 use Rattle.forward_two.proofs.undo_row.Tie as tie
 
@@ -20,7 +20,7 @@ abbrev decreases-loop : tie.decreases-loop
 decreases-loop size r samples at dc₀ low₀ high₀ cells first down strip₀ across width c₀ dc low high strip c = size.width.0 - c
 
 loop-holds : tie.Need-loop-init invariant-loop decreases-loop
-loop-holds c = let a = c.args in (omega arith, c.requires.1.1.0, c.requires.0.of-strip, through-as (a.r * a.size.width.0 + 0) (omega arith) c.requires.1.1.1.1, λ h. absurd (omega arith))
+loop-holds c = let a = c.args in (omega arith, c.requires.1.1.0, c.requires.0.of-strip, through_as (a.r * a.size.width.0 + 0) (omega arith) c.requires.1.1.1.1, λ h. absurd (omega arith))
 
 -- the first sample and the first macroblock of a group are the picture's
 low : (c : tie.In-loop invariant-loop decreases-loop) → let a = c.before.before.args in let i = c.before.loop.c in (a.cells.dc + i ≤ a.at + 16 * i) × (a.at + 16 * i < 55507200)
@@ -72,7 +72,7 @@ loop-again c =
       omega (arith, e.0, less),
       record { of-dc = k.1.1.1.1.1.1.0 ∙ v.1.of-dc; of_low = k.1.1.1.1.1.1.1.0 ∙ v.1.of_low; of-high = k.1.1.1.1.1.1.1.1.0 ∙ v.1.of-high },
       d.group.ensures.1.1,
-      through-as (a.r * W + (l.loop.c + n)) (omega arith) d.group.ensures.0,
+      through_as (a.r * W + (l.loop.c + n)) (omega arith) d.group.ensures.0,
       λ h m. d.group.ensures.1.0 (e.1.1 (omega (arith, less, m))) m,
     )
 
@@ -89,7 +89,7 @@ same-length-4 : tie.Need-same-length-4 invariant-loop decreases-loop
 same-length-4 c = let l = c.before in l.loop.invariant.2 ∙ sym l.before.requires.0.of-strip
 
 returns : tie.Need-returns invariant-loop decreases-loop
-returns c = let l = c.before in let a = l.before.args in let W = a.size.width.0 in (through-as (a.r * W + W) (omega (arith, c.loop-test, l.loop.invariant.0)) l.loop.invariant.3, l.loop.invariant.2)
+returns c = let l = c.before in let a = l.before.args in let W = a.size.width.0 in (through_as (a.r * W + W) (omega (arith, c.loop-test, l.loop.invariant.0)) l.loop.invariant.3, l.loop.invariant.2)
 
 pub undo-row-spec : {M : Type 1} → statement M
 undo-row-spec =

@@ -8,14 +8,14 @@ use borrow.Author.Rules.{rules}
 use lib.ListN.{length}
 use Rattle.lifting.specs.Program.{undo}
 use Rattle.figures.specs.Figures.{core}
-use Rattle.picture.proofs.CheckLaws.{few-macroblocks}
+use Rattle.picture.proofs.CheckLaws.{few_macroblocks}
 use Rattle.grid.proofs.Rows.{row_inside}
 use Rattle.large_numbers.specs.Small.{Small}
-use Rattle.large_numbers.proofs.Small.{neither, small-none, small-up-to, small-part, small-within}
+use Rattle.large_numbers.proofs.Small.{neither, small-none, small_up_to, small_part, small-within}
 use Rattle.forward_two_cores.specs.Cells.{OfOne}
-use Rattle.forward_two_cores.specs.Blocks.{block_of, squareIn, Among, Replaced}
-use Rattle.forward_two_cores.proofs.Stores.{replaced-none, replaced-in, among-more}
-use Rattle.forward_two_cores.proofs.Whole.{sample-block, second-undone}
+use Rattle.forward_two_cores.specs.Blocks.{block_of, square_in, Among, Replaced}
+use Rattle.forward_two_cores.proofs.Stores.{replaced_none, replaced_in, among_more}
+use Rattle.forward_two_cores.proofs.Whole.{sample_block, second_undone_lem}
 use Rattle.forward_two_cores.proofs.undo_cores.Statement.{statement}
 use Rattle.forward_two_cores.proofs.undo_cores.Tie as tie
 
@@ -23,7 +23,7 @@ abbrev invariant-loop : tie.invariant-loop
 invariant-loop size samples dc₀ low₀ high₀ across down w at₀ cells₀ large₀ r₀ dc low high at cells large r =
     let W = size.width.0 in
     (r ≤ down) × (length dc ≡ length dc₀) × (length low ≡ length low₀) × (length high ≡ length high₀)
-    × Replaced (Among 0 (r * W)) (λ t. undo core (squareIn W samples t)) (block_of dc₀ low₀ high₀) (block_of dc low high)
+    × Replaced (Among 0 (r * W)) (λ t. undo core (square_in W samples t)) (block_of dc₀ low₀ high₀) (block_of dc low high)
     × (at ≡ r * (256 * W)) × (cells.dc ≡ r * W) × OfOne cells × (large ≡ false → Small samples 0 at)
 
 abbrev decreases-loop : tie.decreases-loop
@@ -38,14 +38,14 @@ inside c =
     let W = s.args.size.width.0 in
     let H = s.args.size.height.0 in
     let h = row_inside l.loop.r H W (omega arith) in
-    (omega (arith, l.loop.invariant.5), omega (arith, l.loop.invariant.6), few-macroblocks s.requires.0)
+    (omega (arith, l.loop.invariant.5), omega (arith, l.loop.invariant.6), few_macroblocks s.requires.0)
 
 -- the turn in which a row was undone
 abbrev turn : tie.After-high invariant-loop decreases-loop → tie.In-loop invariant-loop decreases-loop
 turn c = c.before.before.before.before.before.before.before
 
 loop-holds : tie.Need-loop-init invariant-loop decreases-loop
-loop-holds c = (omega arith, refl, refl, refl, replaced-none (λ t h. absurd (omega (arith, h))), omega arith, omega arith, (omega arith, omega arith), λ e. small-none c.before.before.before.before.args.samples.now (omega arith))
+loop-holds c = (omega arith, refl, refl, refl, replaced_none (λ t h. absurd (omega (arith, h))), omega arith, omega arith, (omega arith, omega arith), λ e. small-none c.before.before.before.before.args.samples.now (omega arith))
 
 undo-row-requires : tie.Need-undo-row-requires invariant-loop decreases-loop
 undo-row-requires c κs =
@@ -68,11 +68,11 @@ loop-again c =
       omega arith,
       omega arith,
       omega arith,
-      replaced-in (λ t h. (omega arith, omega (arith, h))) (λ t h. (omega arith, omega (arith, h))) (among-more 0 (r * W) (r * W + W) (omega arith) (omega arith) v.4 d.undo-row.ensures.0),
+      replaced_in (λ t h. (omega arith, omega (arith, h))) (λ t h. (omega arith, omega (arith, h))) (among_more 0 (r * W) (r * W + W) (omega arith) (omega arith) v.4 d.undo-row.ensures.0),
       omega (arith, v.5, w),
       omega (arith, v.6, c.after.ensures.0),
       c.after.ensures.1,
-      neither (small-up-to a.samples.now (omega arith) (omega (arith, w))) v.8 d.undo-row.ensures.1,
+      neither (small_up_to a.samples.now (omega arith) (omega (arith, w))) v.8 d.undo-row.ensures.1,
     )
 
 same_length : tie.Need-same-length invariant-loop decreases-loop
@@ -95,9 +95,9 @@ returns c =
     let tall = s.requires.0.tall in
     let all : l.loop.r ≡ H = omega arith in
     let most : l.loop.r * W ≡ W * H = rw all (omega arith) in (
-      second-undone wide H tall (squareIn W a.samples.now) l.loop.dc l.loop.low l.loop.high a.samples.now s.requires.1.0
-          (λ b h. sample-block wide H tall a.samples.now b) (λ t h. l.loop.invariant.4.own t (omega arith, omega (arith, most))),
-      λ e. small-within a.samples.now (small-part a.samples.now (l.loop.invariant.8 e) (omega arith) (omega (arith, most, l.loop.invariant.5, s.requires.1.0))),
+      second_undone_lem wide H tall (square_in W a.samples.now) l.loop.dc l.loop.low l.loop.high a.samples.now s.requires.1.0
+          (λ b h. sample_block wide H tall a.samples.now b) (λ t h. l.loop.invariant.4.own t (omega arith, omega (arith, most))),
+      λ e. small-within a.samples.now (small_part a.samples.now (l.loop.invariant.8 e) (omega arith) (omega (arith, most, l.loop.invariant.5, s.requires.1.0))),
     )
 
 pub undo-cores-spec : {M : Type 1} → statement M

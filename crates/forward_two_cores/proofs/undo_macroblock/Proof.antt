@@ -4,15 +4,15 @@ use mathlib.Core.Path.{◌≡◌, refl}
 use native.Mathlib.Omega.{arith}
 use lib.ListN.{length}
 use Rattle.grid.proofs.Rows.{row_inside}
-use Rattle.forward_two_cores.specs.Blocks.{block_of, undoneIn, InRows, Replaced}
-use Rattle.forward_two_cores.proofs.Stores.{replaced-none, replaced-as, replaced-in, rows_more, blocks-replaced, side_by_side}
+use Rattle.forward_two_cores.specs.Blocks.{block_of, undone_in, InRows, Replaced}
+use Rattle.forward_two_cores.proofs.Stores.{replaced_none, replaced_as, replaced_in, rows_more, blocks_replaced, side_by_side}
 use Rattle.forward_two_cores.proofs.undo_macroblock.Statement.{statement}
 use Rattle.forward_two_cores.proofs.undo_macroblock.Tie as tie
 
 abbrev invariant-loop : tie.invariant-loop
 invariant-loop grid w at dc₀ low₀ high₀ cells row₀ from₀ k₀ dc low high row from k =
     (k ≤ 4) × (length dc ≡ length dc₀) × (length low ≡ length low₀) × (length high ≡ length high₀)
-    × Replaced (InRows 0 k cells.dc (cells.dc + 1)) (λ t. undoneIn w at grid (t % 16)) (block_of dc₀ low₀ high₀) (block_of dc low high)
+    × Replaced (InRows 0 k cells.dc (cells.dc + 1)) (λ t. undone_in w at grid (t % 16)) (block_of dc₀ low₀ high₀) (block_of dc low high)
     × (row ≡ at + k * (4 * w)) × (from ≡ cells.high + 60 * k)
 
 abbrev decreases-loop : tie.decreases-loop
@@ -23,7 +23,7 @@ inside : (c : tie.In-loop invariant-loop decreases-loop) → let a = c.before.be
 inside c = omega (arith, c.before.loop.invariant.5, row_inside c.before.loop.k 4 (4 * c.before.before.args.w) (omega arith))
 
 loop-holds : tie.Need-loop-init invariant-loop decreases-loop
-loop-holds c = (omega arith, refl, refl, refl, replaced-none (λ t h. absurd (omega (arith, h))), omega arith, omega arith)
+loop-holds c = (omega arith, refl, refl, refl, replaced_none (λ t h. absurd (omega (arith, h))), omega arith, omega arith)
 
 undo-four-cores-requires : tie.Need-undo-four-cores-requires invariant-loop decreases-loop
 undo-four-cores-requires c κs = let l = c.before.before in (omega (arith, inside c.before, l.before.requires), omega (arith, l.loop.invariant, l.before.requires))
@@ -48,12 +48,12 @@ loop-again c =
     let m = a.cells.dc in
     let k = l.loop.k in
     let e = done.undo-four-cores.ensures in
-    let row = blocks-replaced a.w l.loop.row a.grid.now m k done.undo-four-cores.result l.loop.dc l.loop.low _ _ (omega arith) (omega (arith, v.6, l.before.requires.1.0)) e.0 e.1 put.put-zeros.ensures in (
+    let row = blocks_replaced a.w l.loop.row a.grid.now m k done.undo-four-cores.result l.loop.dc l.loop.low _ _ (omega arith) (omega (arith, v.6, l.before.requires.1.0)) e.0 e.1 put.put-zeros.ensures in (
       omega arith,
       omega (arith, v.1),
       omega (arith, v.2),
       omega (arith, v.3),
-      rows_more 0 k (k + 1) m (m + 1) (omega arith) (omega arith) v.4 (replaced-as (side_by_side a.w l.loop.row a.grid.now m k a.at v.5) row),
+      rows_more 0 k (k + 1) m (m + 1) (omega arith) (omega arith) v.4 (replaced_as (side_by_side a.w l.loop.row a.grid.now m k a.at v.5) row),
       omega (arith, v.5),
       omega (arith, v.6),
     )
@@ -62,7 +62,7 @@ returns : tie.Need-returns invariant-loop decreases-loop
 returns c =
     let l = c.before in
     let e : l.loop.k ≡ 4 = omega arith in
-    replaced-in (λ t h. omega (arith, h)) (λ t h. ((omega (arith, h), omega (arith, h)), omega arith, omega arith)) (rw e at l.loop.invariant.4)
+    replaced_in (λ t h. omega (arith, h)) (λ t h. ((omega (arith, h), omega (arith, h)), omega arith, omega arith)) (rw e at l.loop.invariant.4)
 
 pub undo-macroblock-spec : {M : Type 1} → statement M
 undo-macroblock-spec =

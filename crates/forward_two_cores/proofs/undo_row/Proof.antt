@@ -7,11 +7,11 @@ use borrow.Author.Rules.{rules}
 use lib.ListN.{length}
 use Rattle.lifting.specs.Program.{undo}
 use Rattle.figures.specs.Figures.{core}
-use Rattle.picture.proofs.CheckLaws.{few-macroblocks}
+use Rattle.picture.proofs.CheckLaws.{few_macroblocks}
 use Rattle.large_numbers.specs.Small.{Small}
-use Rattle.large_numbers.proofs.Small.{neither, small-none, small-up-to, small-part}
-use Rattle.forward_two_cores.specs.Blocks.{block_of, squareIn, InRows, Replaced}
-use Rattle.forward_two_cores.proofs.Stores.{replaced-none, replaced-in, rows_more, row_ends}
+use Rattle.large_numbers.proofs.Small.{neither, small-none, small_up_to, small_part}
+use Rattle.forward_two_cores.specs.Blocks.{block_of, square_in, InRows, Replaced}
+use Rattle.forward_two_cores.proofs.Stores.{replaced_none, replaced_in, rows_more, row_ends}
 use Rattle.forward_two_cores.proofs.undo_row.Statement.{statement}
 use Rattle.forward_two_cores.proofs.undo_row.Tie as tie
 
@@ -19,7 +19,7 @@ abbrev invariant-loop : tie.invariant-loop
 invariant-loop size r samples at dc₀ low₀ high₀ cells w row₀ large₀ k₀ dc low high row large k =
     let W = size.width.0 in
     (k ≤ 4) × (length dc ≡ length dc₀) × (length low ≡ length low₀) × (length high ≡ length high₀)
-    × Replaced (InRows 0 k cells.dc (cells.dc + W)) (λ t. undo core (squareIn W samples t)) (block_of dc₀ low₀ high₀) (block_of dc low high)
+    × Replaced (InRows 0 k cells.dc (cells.dc + W)) (λ t. undo core (square_in W samples t)) (block_of dc₀ low₀ high₀) (block_of dc low high)
     × (row ≡ at + k * (64 * W)) × (large ≡ false → Small samples at row)
 
 abbrev decreases-loop : tie.decreases-loop
@@ -37,10 +37,10 @@ inside h =
     let a = s.args in
     let y = 4 * a.r + l.loop.k in
     let begins : l.loop.row ≡ y * (64 * a.size.width.0) = omega (arith, l.loop.invariant.5, s.pre.1.0.0) in
-    (begins, omega (arith, begins, (row_ends y a.size.width.0 a.size.height.0 (omega (arith, s.pre.0.1))).0), few-macroblocks s.pre.0.0)
+    (begins, omega (arith, begins, (row_ends y a.size.width.0 a.size.height.0 (omega (arith, s.pre.0.1))).0), few_macroblocks s.pre.0.0)
 
 loop-holds : tie.Need-loop-init invariant-loop decreases-loop
-loop-holds c = (omega arith, refl, refl, refl, replaced-none (λ t h. absurd (omega (arith, h))), omega arith, λ e. small-none c.before.before.args.samples.now (omega arith))
+loop-holds c = (omega arith, refl, refl, refl, replaced_none (λ t h. absurd (omega (arith, h))), omega arith, λ e. small-none c.before.before.args.samples.now (omega arith))
 
 undo-block-row-requires : tie.Need-undo-block-row-requires invariant-loop decreases-loop
 undo-block-row-requires c κs =
@@ -72,7 +72,7 @@ loop-again c =
       omega (arith, v.3),
       rows_more 0 k (k + 1) m (m + a.size.width.0) (omega arith) (omega arith) v.4 (rw same at d.undo-block-row.ensures.0),
       omega (arith, v.5, w),
-      neither (small-up-to a.samples.now (omega arith) (omega (arith, w))) v.6 d.undo-block-row.ensures.1,
+      neither (small_up_to a.samples.now (omega arith) (omega (arith, w))) v.6 d.undo-block-row.ensures.1,
     )
 
 returns : tie.Need-returns invariant-loop decreases-loop
@@ -82,8 +82,8 @@ returns c =
     let a = s.args in
     let e : l.loop.k ≡ 4 = omega arith in
     let first = s.pre.1.0.1 in (
-      replaced-in (λ t h. (omega (arith, h, first), omega (arith, h, first))) (λ t h. ((omega (arith, h, first), omega (arith, h, first)), omega arith, omega arith)) (rw e at l.loop.invariant.4),
-      λ h. small-part a.samples.now (l.loop.invariant.6 h) (omega arith) (omega (arith, rw e at l.loop.invariant.5)),
+      replaced_in (λ t h. (omega (arith, h, first), omega (arith, h, first))) (λ t h. ((omega (arith, h, first), omega (arith, h, first)), omega arith, omega arith)) (rw e at l.loop.invariant.4),
+      λ h. small_part a.samples.now (l.loop.invariant.6 h) (omega arith) (omega (arith, rw e at l.loop.invariant.5)),
     )
 
 pub undo-row-spec : {M : Type 1} → statement M

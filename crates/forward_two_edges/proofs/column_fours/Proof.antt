@@ -4,13 +4,13 @@ use mathlib.Core.Path.{◌≡◌}
 use native.Mathlib.Omega.{arith}
 use Rattle.grid.proofs.Rows.{row_inside}
 use Rattle.forward_two_edges.specs.Strip.{Columns}
-use Rattle.forward_two_edges.proofs.Strips.{foursDown, columns-none, columns-more}
+use Rattle.forward_two_edges.proofs.Strips.{fours_down, columns_none, columns_more}
 use Rattle.forward_two_edges.proofs.column_fours.Statement.{statement}
 use Rattle.forward_two_edges.proofs.column_fours.Tie as tie
 
 abbrev invariant-loop : tie.invariant-loop
 invariant-loop samples w n strip₀ at l₀ strip next l =
-    (l ≤ n) × (next.samples ≡ at.samples + 4 * w * l) × Columns at.strip (4 * l) (foursDown samples w at.samples) strip₀ strip × (next.strip ≡ at.strip + 288 * l)
+    (l ≤ n) × (next.samples ≡ at.samples + 4 * w * l) × Columns at.strip (4 * l) (fours_down samples w at.samples) strip₀ strip × (next.strip ≡ at.strip + 288 * l)
 
 abbrev decreases-loop : tie.decreases-loop
 decreases-loop samples w n strip₀ at l₀ strip next l = n - l
@@ -27,7 +27,7 @@ abbrev turn-2 : tie.After-strip2 invariant-loop decreases-loop → tie.In-loop i
 turn-2 c = turn c.before.before.before.before.before
 
 loop-holds : tie.Need-loop-init invariant-loop decreases-loop
-loop-holds c = (omega arith, omega arith, columns-none c.args.at.strip _ _, omega arith)
+loop-holds c = (omega arith, omega arith, columns_none c.args.at.strip _ _, omega arith)
 
 unfilter-four-requires : tie.Need-unfilter-four-requires invariant-loop decreases-loop
 unfilter-four-requires c κs = let v = c.before.before.loop.invariant in (omega (arith, room c.before, v.1), (omega arith, omega (arith, v.2.len, v.3)))
@@ -55,7 +55,7 @@ loop-again c =
     let v = l.loop.inv in (
       omega arith,
       omega (arith, v.1, e.0),
-      columns-more a.samples.now a.w a.at.samples a.at.strip l.loop.l l.loop.next.samples (l.loop.next.samples + 1) _ _ v.1 (omega (arith, v.1)) v.3 (omega (arith, v.3))
+      columns_more a.samples.now a.w a.at.samples a.at.strip l.loop.l l.loop.next.samples (l.loop.next.samples + 1) _ _ v.1 (omega (arith, v.1)) v.3 (omega (arith, v.3))
           v.2 d1.unfilter-four.ensures d2.unfilter-four2.ensures,
       omega (arith, v.3, e.1),
     )

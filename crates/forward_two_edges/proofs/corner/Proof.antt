@@ -3,8 +3,8 @@ use Prim.Native.Nat.{◌+◌, ◌*◌, ◌<◌, ◌≤◌}
 use native.Mathlib.Omega.{arith}
 use borrow.Author.Rules.{rules}
 use Rattle.picture.specs.Sizes.{macroblocks}
-use Rattle.forward_two_edges.proofs.Alone.{first-inside}
-use Rattle.forward_two_edges.proofs.Strips.{place-low, kept-none, corner-filled}
+use Rattle.forward_two_edges.proofs.Alone.{first_inside}
+use Rattle.forward_two_edges.proofs.Strips.{place-low, kept-none, corner_filled}
 use Rattle.forward_two_edges.proofs.corner.Statement.{statement}
 use Rattle.forward_two_edges.proofs.corner.Tie as tie
 
@@ -17,8 +17,8 @@ low k =
     let z = s.requires.0.sized in
     let h = s.requires.1 in
     let some : a.top < a.bottom = omega (arith, k.before.before.if1) in
-    let down = first-inside (4 * a.size.height.0) (16 * a.r + a.top) (omega (arith, z.tall)) (h.1.1 some).1 in
-    let beside = first-inside (4 * a.size.width.0) (16 * a.c + a.x) (omega (arith, z.wide)) h.1.0.2 in
+    let down = first_inside (4 * a.size.height.0) (16 * a.r + a.top) (omega (arith, z.tall)) (h.1.1 some).1 in
+    let beside = first_inside (4 * a.size.width.0) (16 * a.c + a.x) (omega (arith, z.wide)) h.1.0.2 in
     place-low a.size z (16 * a.r + a.top + 1) (16 * a.c + a.x + 1) (omega (arith, (h.0 some).0)) (omega arith) (omega arith)
 
 get-corner-requires : tie.Need-get-corner-requires
@@ -43,11 +43,11 @@ returns c =
     let h = s.requires.1 in
     let some : a.top < a.bottom = omega (arith, k.before.before.if1) in
     let e = h.1.1 some in
-    rw e.0 (corner-filled a.size a.samples.now g.sized.wide g.sized.tall g.of-samples a.r a.c a.top a.x a.at.samples _ read.get-corner.result made.unfiltered.result
+    rw e.0 (corner_filled a.size a.samples.now g.sized.wide g.sized.tall g.of-samples a.r a.c a.top a.x a.at.samples _ read.get-corner.result made.unfiltered.result
     h.1.0.1 (omega (arith, g.of-strip, h.1.0, e.0)) e.1 h.1.0.2 (omega (arith, h.0 some)) (h.0 some).1 (rw k.before.samples.ensures.0 at read.get-corner.ensures) made.unfiltered.ensures stored.put-corner.ensures)
 
-returns-2 : tie.Need-returns-2
-returns-2 c =
+returns_2 : tie.Need-returns-2
+returns_2 c =
     let s = c.before in
     let a = s.args in
     (record { there = λ y x f g h k u v. absurd (omega (arith, c.if1)) }, kept-none a.top a.bottom a.x (a.x + 2) a.strip.now)
@@ -55,4 +55,4 @@ returns-2 c =
 pub corner-spec : {M : Type 1} → statement M
 corner-spec =
     tie.close
-    (tie.spec (λ c κs. search rules) (λ c. search rules) get-corner-requires (λ c κs. search rules) put-corner-requires (λ c. search rules) returns returns-2)
+    (tie.spec (λ c κs. search rules) (λ c. search rules) get-corner-requires (λ c κs. search rules) put-corner-requires (λ c. search rules) returns returns_2)

@@ -3,18 +3,18 @@ use Prim.Native.Nat.{◌+◌, ◌*◌, ◌<◌, ◌≤◌}
 use mathlib.Core.Path.{◌∙◌}
 use native.Mathlib.Omega.{arith}
 use Rattle.picture.specs.Sizes.{macroblocks}
-use Rattle.forward_two_edges.proofs.Alone.{first-inside}
-use Rattle.forward_two_edges.proofs.Strips.{given-of, place-low, columns-filled, first-place, rows-down, corner-above, corner-below, columns-joined}
+use Rattle.forward_two_edges.proofs.Alone.{first_inside}
+use Rattle.forward_two_edges.proofs.Strips.{given_of, place-low, columns_filled, first-place, rows_down, corner-above, corner-below, columns_joined}
 use borrow.Author.Rules.{rules}
 use Rattle.forward_two_edges.proofs.edge_columns.Statement.{statement}
 use Rattle.forward_two_edges.proofs.edge_columns.Tie as tie
 
 -- the windows down, and the place after the last of them
 ends : (s : tie.Start) → let a = s.args in (3 ≤ a.down) × (a.down ≤ 4) × (4 * a.r + a.down < 4 * a.size.height.0)
-ends s = rows-down s.requires.0.below s.requires.1.1.0
+ends s = rows_down s.requires.0.below s.requires.1.1.0
 
 inside : (s : tie.Start) → 16 * s.args.c + s.args.x + 1 < 16 * s.args.size.width.0
-inside s = omega (arith, first-inside (4 * s.args.size.width.0) (16 * s.args.c + s.args.x) (omega (arith, s.requires.0.sized.wide)) s.requires.1.1.1.1)
+inside s = omega (arith, first_inside (4 * s.args.size.width.0) (16 * s.args.c + s.args.x) (omega (arith, s.requires.0.sized.wide)) s.requires.1.1.1.1)
 
 low : (s : tie.Start) → let a = s.args in
     (a.at + (2 + 4 * a.down) * (16 * a.size.width.0) + (a.x + 1) < 256 * macroblocks a.size) × (256 * macroblocks a.size ≤ 55507200)
@@ -60,7 +60,7 @@ corner-requires-2 c κs =
     let g = s.requires.0 in
     let h = s.requires.1.1 in
     let w = m.samples.ensures.0 in (
-      given-of g (e.column-fours.ensures.0.len ∙ d.corner.ensures.1.len ∙ g.of-strip),
+      given_of g (e.column-fours.ensures.0.len ∙ d.corner.ensures.1.len ∙ g.of-strip),
       (λ k. (omega (arith, s.requires.1.0, w, b.below.ensures, rw w at e.column-fours.ensures.1.0), omega (arith, b.below.ensures, e.column-fours.ensures.1)), ((omega arith, h.1.0, h.1.1), corner-below g.below h.0)),
     )
 
@@ -76,8 +76,8 @@ returns c =
     let g = s.requires.0 in
     let k = s.requires.1.1.1 in
     let w = m.samples.ensures.0 in
-    columns-joined g.below s.requires.1.1.0 a.c a.x k.0 d.corner.ensures
-    (columns-filled a.size a.samples.now g.sized.wide g.sized.tall g.of-samples a.r a.c a.x a.down _ _ k.0 (ends s).2 k.1 (omega (arith, w, s.requires.1.0, b.below.ensures)) (omega (arith, b.below.ensures)) (rw w at e.column-fours.ensures.0))
+    columns_joined g.below s.requires.1.1.0 a.c a.x k.0 d.corner.ensures
+    (columns_filled a.size a.samples.now g.sized.wide g.sized.tall g.of-samples a.r a.c a.x a.down _ _ k.0 (ends s).2 k.1 (omega (arith, w, s.requires.1.0, b.below.ensures)) (omega (arith, b.below.ensures)) (rw w at e.column-fours.ensures.0))
     h.corner2.ensures
 
 pub edge-columns-spec : {M : Type 1} → statement M

@@ -4,12 +4,12 @@ use mathlib.Core.Path.{◌≡◌}
 use native.Mathlib.Omega.{arith}
 use Rattle.picture.specs.Sizes.{macroblocks}
 use Rattle.forward_two_edges.specs.Strip.{Spread}
-use Rattle.forward_two_edges.proofs.Strips.{place-low, foursFrom, spread_none, spread-more, row-filled}
+use Rattle.forward_two_edges.proofs.Strips.{place-low, fours_from, spread_none, spread_more, row_filled}
 use Rattle.forward_two_edges.proofs.edge_row.Statement.{statement}
 use Rattle.forward_two_edges.proofs.edge_row.Tie as tie
 
 abbrev invariant-loop : tie.invariant-loop
-invariant-loop r c samples at y n strip₀ l₀ strip l = (l ≤ n) × Spread (at.strip + 2) 1 (4 * l) (foursFrom samples 1 (at.samples + 2)) strip₀ strip
+invariant-loop r c samples at y n strip₀ l₀ strip l = (l ≤ n) × Spread (at.strip + 2) 1 (4 * l) (fours_from samples 1 (at.samples + 2)) strip₀ strip
 
 abbrev decreases-loop : tie.decreases-loop
 decreases-loop r c samples at y n strip₀ l₀ strip l = n - l
@@ -38,7 +38,7 @@ loop-again c =
     let d = c.before in
     let l = d.before.before.before.before.before in
     let a = l.before.args in
-    (omega arith, spread-more a.samples.now 1 (a.at.samples + 2) (a.at.strip + 2) 1 l.loop.l _ _ (omega arith) (omega arith) (omega arith) l.loop.invariant.1 d.unfilter-four.ensures)
+    (omega arith, spread_more a.samples.now 1 (a.at.samples + 2) (a.at.strip + 2) 1 l.loop.l _ _ (omega arith) (omega arith) (omega arith) l.loop.invariant.1 d.unfilter-four.ensures)
 
 same_length : tie.Need-same-length invariant-loop decreases-loop
 same_length c = c.before.loop.invariant.1.len
@@ -51,7 +51,7 @@ returns c =
     let g = s.requires.0 in
     let h = s.requires.1.1 in
     let all : l.loop.l ≡ a.n = omega arith in
-    row-filled a.size a.samples.now g.sized.wide g.sized.tall g.of-samples a.r a.c a.y a.n (a.at.samples + 2) (a.at.strip + 2) h.0.1 h.0.2 h.1.0 h.1.1 (omega (arith, s.requires.1.0)) (omega (arith, s.requires.1.0)) (rw all at l.loop.invariant.1)
+    row_filled a.size a.samples.now g.sized.wide g.sized.tall g.of-samples a.r a.c a.y a.n (a.at.samples + 2) (a.at.strip + 2) h.0.1 h.0.2 h.1.0 h.1.1 (omega (arith, s.requires.1.0)) (omega (arith, s.requires.1.0)) (rw all at l.loop.invariant.1)
 
 pub edge-row-spec : {M : Type 1} → statement M
 edge-row-spec =

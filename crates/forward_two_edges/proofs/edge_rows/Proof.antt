@@ -4,7 +4,7 @@ use mathlib.Core.Path.{◌∙◌}
 use native.Mathlib.Omega.{arith}
 use borrow.Author.Rules.{rules}
 use Rattle.forward_two_edges.specs.Strip.{Stands}
-use Rattle.forward_two_edges.proofs.Strips.{given-of, Made, made_none, made-next, made_all, later-row-few}
+use Rattle.forward_two_edges.proofs.Strips.{given_of, Made, made_none, made_next, made_all, later_row_few}
 use Rattle.forward_two_edges.proofs.edge_rows.Statement.{statement}
 use Rattle.forward_two_edges.proofs.edge_rows.Tie as tie
 
@@ -24,14 +24,14 @@ edge-row-requires c κs =
     let s = l.before.before.before in
     let h = s.requires.1.1 in
     let v = l.loop.invariant in
-    (given-of s.requires.0 (v.0.kept.len ∙ s.requires.0.of-strip), (v.1 (omega arith), ((omega (arith, h.0), h.0.1, h.0.2), h.1 l.loop.y v.0.from (omega arith))))
+    (given_of s.requires.0 (v.0.kept.len ∙ s.requires.0.of-strip), (v.1 (omega arith), ((omega (arith, h.0), h.0.1, h.0.2), h.1 l.loop.y v.0.from (omega arith))))
 
 below-requires : tie.Need-below-requires invariant-loop decreases-loop
 below-requires c κs =
     let l = c.before.before.before.before in
     let s = l.before.before.before in
     let v = l.loop.invariant.1 (omega arith) in
-    (omega (arith, l.before.before.samples.ensures.0, later-row-few s.requires.0 l.loop.y 0 l.loop.row.samples v.0 (s.requires.1.1.1 l.loop.y l.loop.invariant.0.from (omega arith)).1 (omega (arith, s.requires.0.beside))), omega (arith, v.1, s.requires.1.1.0))
+    (omega (arith, l.before.before.samples.ensures.0, later_row_few s.requires.0 l.loop.y 0 l.loop.row.samples v.0 (s.requires.1.1.1 l.loop.y l.loop.invariant.0.from (omega arith)).1 (omega (arith, s.requires.0.beside))), omega (arith, v.1, s.requires.1.1.0))
 
 loop-again : tie.Need-loop-preserved invariant-loop decreases-loop
 loop-again c =
@@ -40,7 +40,7 @@ loop-again c =
     let s = l.before.before.before in
     let a = s.args in
     let v = l.loop.invariant in
-    (made-next a.r a.c a.top a.bottom 2 (4 * a.n + 2) l.loop.y v.0 (omega (arith, s.requires.1.1.0)) (omega arith) d.edge_row.ensures, λ h. let e = c.below.ensures in let p = v.1 (omega arith) in (omega (arith, p, e, l.before.before.samples.ensures.0), omega (arith, p, e)))
+    (made_next a.r a.c a.top a.bottom 2 (4 * a.n + 2) l.loop.y v.0 (omega (arith, s.requires.1.1.0)) (omega arith) d.edge_row.ensures, λ h. let e = c.below.ensures in let p = v.1 (omega arith) in (omega (arith, p, e, l.before.before.samples.ensures.0), omega (arith, p, e)))
 
 same_length : tie.Need-same-length invariant-loop decreases-loop
 same_length c = c.before.loop.invariant.0.kept.len

@@ -4,9 +4,9 @@ use mathlib.Core.Path.{◌≡◌, ◌∙◌}
 use native.Mathlib.Omega.{arith}
 use Rattle.forward_two_cores.specs.Blocks.{block_of}
 use Rattle.forward_two_edges.specs.Strip.{Kept}
-use Rattle.forward_two_edges.proofs.Strips.{kept-none, kept-as, kept_then}
+use Rattle.forward_two_edges.proofs.Strips.{kept-none, kept_as, kept_then}
 use Rattle.forward_two_parked.specs.Parked.{Fetched}
-use Rattle.forward_two_parked.proofs.Numbers.{macroblocks-fetched}
+use Rattle.forward_two_parked.proofs.Numbers.{macroblocks_fetched}
 use Rattle.forward_two_parked.proofs.fetch.Statement.{statement}
 use Rattle.forward_two_parked.proofs.fetch.Tie as tie
 
@@ -39,7 +39,7 @@ loop-again c =
     let a = s.args in
     let v = l.loop.invariant in
     let e = rw own.after.ensures.0 at d.fetch-macroblock.ensures in
-    (omega arith, macroblocks-fetched (block_of a.dc.now a.low.now a.high.now) a.cells.dc l.loop.b (omega (arith, s.requires.1.1)) e.0 e.1 v.1, kept_then v.2 (kept-as 0 2 0 (16 * a.n) (omega arith) (omega arith) (omega arith) (omega arith) e.1))
+    (omega arith, macroblocks_fetched (block_of a.dc.now a.low.now a.high.now) a.cells.dc l.loop.b (omega (arith, s.requires.1.1)) e.0 e.1 v.1, kept_then v.2 (kept_as 0 2 0 (16 * a.n) (omega arith) (omega arith) (omega arith) (omega arith) e.1))
 
 same_length : tie.Need-same-length invariant-loop decreases-loop
 same_length c = c.before.loop.invariant.2.len

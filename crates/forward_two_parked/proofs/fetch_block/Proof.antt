@@ -11,7 +11,7 @@ use Rattle.lifting.proofs.Bits.{back}
 use Rattle.figures.proofs.Parts.{kept}
 use Rattle.transform.specs.Grids.{coefficients}
 use Rattle.forward_kernel.proofs.Stores.{below-four, four-at}
-use Rattle.forward_two_parked.proofs.Numbers.{block-fetched}
+use Rattle.forward_two_parked.proofs.Numbers.{block_fetched}
 use borrow.Author.Rules.{rules}
 use Rattle.forward_two_parked.proofs.fetch_block.Statement.{statement}
 use Rattle.forward_two_parked.proofs.fetch_block.Tie as tie
@@ -28,7 +28,7 @@ returns c =
     let a = s.args in
     let high = a.high.now in
     let g : ℕ → ℤ = coefficients a.zero (λ k. at high (a.from + k)) in
-    block-fetched g a.x a.strip.now (kept a.zero ∷ kept (at high a.from) ∷ kept (at high (a.from + 1)) ∷ kept (at high (a.from + 2)) ∷ []) read.get-four.result s.requires.1 s.requires.2
+    block_fetched g a.x a.strip.now (kept a.zero ∷ kept (at high a.from) ∷ kept (at high (a.from + 1)) ∷ kept (at high (a.from + 2)) ∷ []) read.get-four.result s.requires.1 s.requires.2
     (below-four (λ j. at (kept a.zero ∷ kept (at high a.from) ∷ kept (at high (a.from + 1)) ∷ kept (at high (a.from + 2)) ∷ []) j ≡ g j) (to_z-of_z w32 a.zero s.ranges.zero) (back t1.t10.given ∙ ap (at high) (omega arith)) (back t2.t14.given) (back t3.t18.given))
     (λ j h. four-at (a.from + 3) read.get-four.result high read.get-four.ensures j h ∙ below-four (λ i. at high (a.from + 3 + i) ≡ g (i + 4)) (ap (at high) (omega arith)) (ap (at high) (omega arith)) (ap (at high) (omega arith)) (ap (at high) (omega arith)) j h)
     first.put_four.ensures second.put-four2.ensures

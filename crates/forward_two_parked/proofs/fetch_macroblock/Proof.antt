@@ -8,12 +8,12 @@ use Rattle.lifting.specs.Program.{at}
 use Rattle.lifting.proofs.Bits.{back}
 use Rattle.figures.proofs.Parts.{kept}
 use Rattle.forward_kernel.proofs.Stores.{at_block, below-four}
-use Rattle.forward_kernel.specs.Placed.{blockIn}
+use Rattle.forward_kernel.specs.Placed.{block_in}
 use Rattle.forward_two_cores.specs.Blocks.{block_of}
 use Rattle.forward_two_edges.specs.Strip.{Kept}
-use Rattle.forward_two_edges.proofs.Strips.{kept-none, kept-as, kept_then}
+use Rattle.forward_two_edges.proofs.Strips.{kept-none, kept_as, kept_then}
 use Rattle.forward_two_parked.specs.Parked.{place_in}
-use Rattle.forward_two_parked.proofs.Numbers.{block-of, blocks-fetched}
+use Rattle.forward_two_parked.proofs.Numbers.{block-of, blocks_fetched}
 use Rattle.forward_two_parked.proofs.fetch_macroblock.Statement.{statement}
 use Rattle.forward_two_parked.proofs.fetch_macroblock.Tie as tie
 
@@ -51,12 +51,12 @@ loop-again c =
     let from = a.cells.low in
     let zeros = kept (at dc m) ∷ kept (at low from) ∷ kept (at low (from + 1)) ∷ kept (at low (from + 2)) ∷ [] in
     let part : from ≡ 15 * m = s.requires.0.0 in
-    let first : at zeros k ≡ at (blockIn dc low m) k =
-    below-four (λ i. at zeros i ≡ at (blockIn dc low m) i) (back t1.t13.given ∙ sym (at_block dc low m 0 (omega arith))) (back t2.t16.given ∙ ap (at low) (omega (arith, part)) ∙ sym (at_block dc low m 1 (omega arith)))
+    let first : at zeros k ≡ at (block_in dc low m) k =
+    below-four (λ i. at zeros i ≡ at (block_in dc low m) i) (back t1.t13.given ∙ sym (at_block dc low m 0 (omega arith))) (back t2.t16.given ∙ ap (at low) (omega (arith, part)) ∙ sym (at_block dc low m 1 (omega arith)))
     (back t3.t20.given ∙ ap (at low) (omega (arith, part)) ∙ sym (at_block dc low m 2 (omega arith))) (back t4.t24.given ∙ ap (at low) (omega (arith, part)) ∙ sym (at_block dc low m 3 (omega arith))) k few in (
       omega (arith, few),
-      blocks-fetched (block_of dc low a.high.now) m a.b k s.requires.1.1.0 few (λ j h. e.0 j h ∙ block-of dc low a.high.now m a.cells.high k j (kept (at zeros k)) s.requires.0.1 (omega (arith, few)) (omega arith) (back read.fetch-block-arg.given ∙ first)) e.1 v.1,
-      kept_then v.2 (kept-as 0 2 (16 * a.b) (16 * a.b + 16) (omega arith) (omega arith) (omega arith) (omega (arith, few)) e.1),
+      blocks_fetched (block_of dc low a.high.now) m a.b k s.requires.1.1.0 few (λ j h. e.0 j h ∙ block-of dc low a.high.now m a.cells.high k j (kept (at zeros k)) s.requires.0.1 (omega (arith, few)) (omega arith) (back read.fetch-block-arg.given ∙ first)) e.1 v.1,
+      kept_then v.2 (kept_as 0 2 (16 * a.b) (16 * a.b + 16) (omega arith) (omega arith) (omega arith) (omega (arith, few)) e.1),
     )
 
 same_length : tie.Need-same-length invariant-loop decreases-loop

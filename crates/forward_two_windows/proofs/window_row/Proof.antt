@@ -3,7 +3,7 @@ use Prim.Native.Nat.{ℕ, ◌+◌, ◌-◌, ◌*◌, ◌≤◌}
 use mathlib.Core.Path.{◌≡◌, ◌∙◌}
 use native.Mathlib.Omega.{arith}
 use Rattle.forward_two_edges.specs.Strip.{Holds, Kept}
-use Rattle.forward_two_edges.proofs.Strips.{given-of, holds_kept, holds-beside, holds_as, kept-none, kept-as, kept_then}
+use Rattle.forward_two_edges.proofs.Strips.{given_of, holds_kept, holds_beside, holds_as, kept-none, kept_as, kept_then}
 use Rattle.forward_two_windows.proofs.window_row.Statement.{statement}
 use Rattle.forward_two_windows.proofs.window_row.Tie as tie
 
@@ -23,7 +23,7 @@ windows-at-requires c κs =
     let s = l.before in
     let g = s.requires.0 in
     let h = s.requires.1.1 in
-    (given-of g (l.loop.invariant.2.len ∙ g.of-strip), (s.requires.1.0, ((h.0.0, omega (arith, h)), (h.1.0, omega (arith, h)))))
+    (given_of g (l.loop.invariant.2.len ∙ g.of-strip), (s.requires.1.0, ((h.0.0, omega (arith, h)), (h.1.0, omega (arith, h)))))
 
 loop-again : tie.Need-loop-preserved invariant-loop decreases-loop
 loop-again c =
@@ -38,10 +38,10 @@ loop-again c =
     let m = 16 * l.loop.b + 2 in (
       omega (arith, s.requires.1.1.0),
       λ k h g.
-          holds-beside a.r a.c t b 2 m k
+          holds_beside a.r a.c t b 2 m k
           (holds_kept a.r a.c t b 2 m t b (4 * (4 * l.loop.b) + 2) (4 * (4 * l.loop.b) + 18) (omega (arith, s.requires.1.1.0)) (λ y x i j n o p q u w. absurd (omega arith)) (v.1 m (omega arith) (omega arith)) e.1)
           (holds_as a.r a.c t b m k (omega arith) (omega arith) (omega arith) (omega arith) (e.0 k (omega arith) (omega (arith, s.requires.1.1)))),
-      kept_then v.2 (kept-as t b 2 72 (omega arith) (omega arith) (omega arith) (omega (arith, s.requires.1.1.0)) e.1),
+      kept_then v.2 (kept_as t b 2 72 (omega arith) (omega arith) (omega arith) (omega (arith, s.requires.1.1.0)) e.1),
     )
 
 same_length : tie.Need-same-length invariant-loop decreases-loop

@@ -4,7 +4,7 @@ use mathlib.Core.Path.{◌≡◌, ◌∙◌}
 use native.Mathlib.Omega.{arith}
 use borrow.Author.Rules.{rules}
 use Rattle.forward_two_edges.specs.Strip.{Holds, Kept, Stands}
-use Rattle.forward_two_edges.proofs.Strips.{given-of, later-row-few, holds_kept, holds-under, holds_as, kept-none, kept-as, kept_then}
+use Rattle.forward_two_edges.proofs.Strips.{given_of, later_row_few, holds_kept, holds_under, holds_as, kept-none, kept_as, kept_then}
 use Rattle.forward_two_windows.proofs.windows.Statement.{statement}
 use Rattle.forward_two_windows.proofs.windows.Tie as tie
 
@@ -24,14 +24,14 @@ window-row-requires c κs =
     let s = l.before.before.before in
     let g = s.requires.0 in
     let h = s.requires.1.1 in
-    (given-of g (l.loop.invariant.2.len ∙ g.of-strip), (l.loop.invariant.3, ((omega (arith, h), h.0.1), (omega (arith, h), h.1.1))))
+    (given_of g (l.loop.invariant.2.len ∙ g.of-strip), (l.loop.invariant.3, ((omega (arith, h), h.0.1), (omega (arith, h), h.1.1))))
 
 below-requires : tie.Need-below-requires invariant-loop decreases-loop
 below-requires c κs =
     let l = c.before.before.before.before in
     let s = l.before.before.before in
     let e = l.loop.invariant.3 in
-    (omega (arith, l.before.before.samples.ensures.0, later-row-few s.requires.0 (4 * l.loop.v + 2) 0 l.loop.row.samples e.0 (omega (arith, s.requires.1.1.1)) (omega (arith, s.requires.0.beside))), omega (arith, e.1, s.requires.1.1.0))
+    (omega (arith, l.before.before.samples.ensures.0, later_row_few s.requires.0 (4 * l.loop.v + 2) 0 l.loop.row.samples e.0 (omega (arith, s.requires.1.1.1)) (omega (arith, s.requires.0.beside))), omega (arith, e.1, s.requires.1.1.0))
 
 loop-again : tie.Need-loop-preserved invariant-loop decreases-loop
 loop-again c =
@@ -46,8 +46,8 @@ loop-again c =
     let k = 4 * a.n + 2 in (
       omega arith,
       holds_as a.r a.c 2 (4 * (l.loop.v + 1) + 2) 2 k (omega arith) (omega arith) (omega arith) (omega arith)
-          (holds-under a.r a.c 2 m b 2 k (holds_kept a.r a.c 2 m 2 k m b 2 72 (omega (arith, s.requires.1.1.0)) (λ y x i j n o p q u w. absurd (omega arith)) v.1 e.1) e.0),
-      kept_then v.2 (kept-as 2 (4 * a.down + 2) 2 72 (omega arith) (omega arith) (omega arith) (omega arith) e.1),
+          (holds_under a.r a.c 2 m b 2 k (holds_kept a.r a.c 2 m 2 k m b 2 72 (omega (arith, s.requires.1.1.0)) (λ y x i j n o p q u w. absurd (omega arith)) v.1 e.1) e.0),
+      kept_then v.2 (kept_as 2 (4 * a.down + 2) 2 72 (omega arith) (omega arith) (omega arith) (omega arith) e.1),
       (omega (arith, v.3, c.below.ensures, l.before.before.samples.ensures.0), omega (arith, v.3, c.below.ensures)),
     )
 

@@ -4,7 +4,7 @@ use mathlib.Core.Path.{refl}
 use native.Mathlib.Omega.{arith}
 use Rattle.picture.specs.Sizes.{macroblocks}
 use Rattle.forward_two_edges.proofs.Strips.{place-low}
-use Rattle.forward_two_windows.proofs.Filled.{windows-hold, windows-keep}
+use Rattle.forward_two_windows.proofs.Filled.{windows-hold, windows_keep}
 use borrow.Author.Rules.{rules}
 use Rattle.forward_two_windows.proofs.windows_at.Statement.{statement}
 use Rattle.forward_two_windows.proofs.windows_at.Tie as tie
@@ -42,7 +42,7 @@ returns c =
     let a = s.args in
     let h = s.requires.1.1 in
     let e = rw m.samples.ensures.0 at d.undo-four-windows.ensures in
-    (windows-hold a.size a.samples.now s.requires.0.of-samples a.r a.c a.v a.l _ _ h.1.0 h.0.1 (omega (arith, s.requires.1.0)) (omega (arith, s.requires.1.0)) e, windows-keep a.size a.samples.now s.requires.0.of-samples a.r a.c a.v a.l _ _ h.1.0 h.0.1 (omega (arith, s.requires.1.0)) (omega (arith, s.requires.1.0)) e)
+    (windows-hold a.size a.samples.now s.requires.0.of-samples a.r a.c a.v a.l _ _ h.1.0 h.0.1 (omega (arith, s.requires.1.0)) (omega (arith, s.requires.1.0)) e, windows_keep a.size a.samples.now s.requires.0.of-samples a.r a.c a.v a.l _ _ h.1.0 h.0.1 (omega (arith, s.requires.1.0)) (omega (arith, s.requires.1.0)) e)
 
 pub windows-at-spec : {M : Type 1} → statement M
 windows-at-spec =

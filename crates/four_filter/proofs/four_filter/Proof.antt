@@ -1,8 +1,8 @@
 -- The four numbers of the told filter.
 use mathlib.Core.Path.{◌∙◌, ap}
 use Rattle.lifting.specs.Program.{run}
-use Rattle.lifting.proofs.Traces.{four-read}
-use Rattle.figures.specs.Figures.{fourFilter}
+use Rattle.lifting.proofs.Traces.{four_read}
+use Rattle.figures.specs.Figures.{four_filter}
 use Rattle.four_filter.proofs.four_filter.Statement.{statement}
 use Rattle.four_filter.proofs.four_filter.Tie as tie
 
@@ -10,7 +10,7 @@ returns : tie.Need-returns
 returns c2 =
     let c1 = c2.before in
     let f = c1.before.ranges in
-    c1.four-filter-told.ensures.0 ∙ ap (run fourFilter) (four-read f.a f.b f.c f.d)
+    c1.four-filter-told.ensures.0 ∙ ap (run four_filter) (four_read f.a f.b f.c f.d)
 
 pub four-filter-spec : {M : Type 1} → statement M
 four-filter-spec = tie.close (tie.spec (λ c κs. tt) returns)

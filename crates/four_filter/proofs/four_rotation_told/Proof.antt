@@ -1,14 +1,14 @@
 -- The first lines of Figure 4.13 in turn, each by what its calls ensure; the rotation among them by what it tells.
 use borrow.Author.Rules.{rules}
 use Rattle.lifting.specs.Program.{get, put}
-use Rattle.lifting.proofs.Traces.{number, rounded, plus, minus, ◌⇒◌, ◌▸◌, at-end, ran, four-read}
-use Rattle.figures.specs.Pieces.{fourRotation}
+use Rattle.lifting.proofs.Traces.{number, rounded, plus, minus, ◌⇒◌, ◌▸◌, at-end, ran, four_read}
+use Rattle.figures.specs.Pieces.{four_rotation}
 use Rattle.figures.proofs.Parts.{pair}
 use Rattle.four_filter.proofs.four_rotation_told.Statement.{statement}
 use Rattle.four_filter.proofs.four_rotation_told.Tie as tie
 
 returns : tie.Need-returns
-unfolding get put fourRotation
+unfolding get put four_rotation
 returns c39 =
     let c24 = c39.before.before.before.before.before.before.before.before.before.before.before.before.before.before.before in
     let c21 = c24.before.before.before in
@@ -24,7 +24,7 @@ returns c39 =
     let c1 = c2.before in
     let e = c1.before in
     let f = e.ranges in
-    ran e.args.tell fourRotation _ (four-read f.a f.b f.c f.d)
+    ran e.args.tell four_rotation _ (four_read f.a f.b f.c f.d)
     (plus number c1.add-told.ensures
     ⇒ plus number c2.add-told2.ensures
     ⇒ minus (rounded number c4.rounded-told.ensures) c6.sub_told.ensures

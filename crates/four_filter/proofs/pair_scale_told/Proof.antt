@@ -1,12 +1,12 @@
 -- The last lines of Figure 4.13 in turn, each by what its calls ensure.
 use borrow.Author.Rules.{rules}
-use Rattle.lifting.proofs.Traces.{number, scaled, difference, plus, minus, ◌⇒◌, at-end, ran, two-read}
-use Rattle.figures.specs.Pieces.{pairScale}
+use Rattle.lifting.proofs.Traces.{number, scaled, difference, plus, minus, ◌⇒◌, at-end, ran, two_read}
+use Rattle.figures.specs.Pieces.{pair_scale}
 use Rattle.four_filter.proofs.pair_scale_told.Statement.{statement}
 use Rattle.four_filter.proofs.pair_scale_told.Tie as tie
 
 returns : tie.Need-returns
-unfolding pairScale
+unfolding pair_scale
 returns c23 =
     let c14 = c23.before.before.before.before.before.before.before.before.before in
     let c11 = c14.before.before.before in
@@ -16,7 +16,7 @@ returns c23 =
     let c3 = c5.before.before in
     let c1 = c3.before.before in
     let e = c1.before in
-    ran e.args.tell pairScale _ (two-read e.ranges.a e.ranges.b)
+    ran e.args.tell pair_scale _ (two_read e.ranges.a e.ranges.b)
     (minus (difference number (scaled number c1.scaled-told.ensures) c3.sub_told.ensures) c5.sub-told2.ensures
     ⇒ plus (scaled number c7.scaled-told2.ensures) c9.add-told.ensures
     ⇒ plus (scaled number c11.scaled-told3.ensures) c14.add-told2.ensures

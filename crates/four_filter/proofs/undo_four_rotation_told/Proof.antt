@@ -1,14 +1,14 @@
 -- The first lines of Figure 4.13 from the last to the first, each by what its calls ensure; the rotation among them by what it tells.
 use borrow.Author.Rules.{rules}
 use Rattle.lifting.specs.Program.{back, get, put}
-use Rattle.lifting.proofs.Traces.{number, rounded, plus, minus, ◌⇐◌, ◌◂◌, at-start, undone, four-read}
-use Rattle.figures.specs.Pieces.{fourRotation}
+use Rattle.lifting.proofs.Traces.{number, rounded, plus, minus, ◌⇐◌, ◌◂◌, at_start, undone, four_read}
+use Rattle.figures.specs.Pieces.{four_rotation}
 use Rattle.figures.proofs.Parts.{pair}
 use Rattle.four_filter.proofs.undo_four_rotation_told.Statement.{statement}
 use Rattle.four_filter.proofs.undo_four_rotation_told.Tie as tie
 
 returns : tie.Need-returns
-unfolding back get put fourRotation
+unfolding back get put four_rotation
 returns c37 =
     let c22 = c37.before.before.before.before.before.before.before.before.before.before.before.before.before.before.before in
     let c20 = c22.before.before in
@@ -24,8 +24,8 @@ returns c37 =
     let c1 = c3.before.before in
     let e = c1.before in
     let f = e.ranges in
-    undone e.args.tell fourRotation _ (four-read f.a f.b f.c f.d)
-    (at-start
+    undone e.args.tell four_rotation _ (four_read f.a f.b f.c f.d)
+    (at_start
     ⇐ minus (rounded number c1.rounded-told.ensures) c3.sub_told.ensures
     ⇐ minus (rounded number c4.rounded-told2.ensures) c6.sub-told2.ensures
     ◂ (pair c12.struct-told5.given c9.undo-rotation-told.ensures.0, c9.undo-rotation-told.ensures.1)

@@ -1,13 +1,13 @@
 -- The last lines of Figure 4.13 from the last to the first, each by what its calls ensure.
 use borrow.Author.Rules.{rules}
 use Rattle.lifting.specs.Program.{back}
-use Rattle.lifting.proofs.Traces.{number, scaled, difference, plus, minus, ◌⇐◌, at-start, undone, two-read}
-use Rattle.figures.specs.Pieces.{pairScale}
+use Rattle.lifting.proofs.Traces.{number, scaled, difference, plus, minus, ◌⇐◌, at_start, undone, two_read}
+use Rattle.figures.specs.Pieces.{pair_scale}
 use Rattle.four_filter.proofs.undo_pair_scale_told.Statement.{statement}
 use Rattle.four_filter.proofs.undo_pair_scale_told.Tie as tie
 
 returns : tie.Need-returns
-unfolding back pairScale
+unfolding back pair_scale
 returns c24 =
     let c15 = c24.before.before.before.before.before.before.before.before.before in
     let c12 = c15.before.before.before in
@@ -17,8 +17,8 @@ returns c24 =
     let c3 = c5.before.before in
     let c1 = c3.before.before in
     let e = c1.before in
-    undone e.args.tell pairScale _ (two-read e.ranges.a e.ranges.b)
-    (at-start
+    undone e.args.tell pair_scale _ (two_read e.ranges.a e.ranges.b)
+    (at_start
     ⇐ minus (scaled number c1.scaled-told.ensures) c3.sub_told.ensures
     ⇐ minus (scaled number c5.scaled-told2.ensures) c7.sub-told2.ensures
     ⇐ plus (difference number (scaled number c9.scaled-told3.ensures) c12.sub-told3.ensures) c15.add-told.ensures)

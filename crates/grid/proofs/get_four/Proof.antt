@@ -1,5 +1,5 @@
 -- Each place lies in the grid, and the four reads are the strip.
-use Rattle.grid.proofs.Squares.{four-read}
+use Rattle.grid.proofs.Squares.{four_read}
 use borrow.Author.Rules.{rules}
 use Rattle.grid.proofs.get_four.Statement.{statement}
 use Rattle.grid.proofs.get_four.Tie as tie
@@ -52,7 +52,7 @@ shared-slice-copy-out-t18 c = search rules
 
 -- src/square.rt:10:1
 returns : tie.Need-returns
-returns c = four-read _ _ _ _ _ c.before.before.before.t9.given c.before.before.t12.given c.before.t15.given c.t18.given
+returns c = four_read _ _ _ _ _ c.before.before.before.t9.given c.before.before.t12.given c.before.t15.given c.t18.given
 
 pub get-four-spec : {M : Type 1} → statement M
 get-four-spec =

@@ -1,5 +1,5 @@
 -- Four rows of four are the square.
-use Rattle.grid.proofs.Squares.{square-read}
+use Rattle.grid.proofs.Squares.{square_read}
 use borrow.Author.Rules.{rules}
 use Rattle.grid.proofs.get_square.Statement.{statement}
 use Rattle.grid.proofs.get_square.Tie as tie
@@ -37,7 +37,7 @@ get-four-requires-4 c κs = search rules
 
 -- src/square.rt:38:1
 returns : tie.Need-returns
-returns c = square-read _ _ _ _ _ _ _ c.before.before.before.get-four.ensures c.before.before.get-four2.ensures c.before.get-four3.ensures c.get-four4.ensures
+returns c = square_read _ _ _ _ _ _ _ c.before.before.before.get-four.ensures c.before.before.get-four2.ensures c.before.get-four3.ensures c.get-four4.ensures
 
 pub get-square-spec : {M : Type 1} → statement M
 get-square-spec =

@@ -1,7 +1,7 @@
 -- Each place lies in the grid, and the four stores are the strip.
 use lib.ListN.{length-set}
 use native.Mathlib.Omega.{arith}
-use Rattle.grid.proofs.Squares.{four-stored}
+use Rattle.grid.proofs.Squares.{four_stored}
 use borrow.Author.Rules.{rules}
 use Rattle.grid.proofs.put_four.Statement.{statement}
 use Rattle.grid.proofs.put_four.Tie as tie
@@ -74,7 +74,7 @@ same_length c = search rules
 
 -- src/square.rt:20:1
 returns : tie.Need-returns
-returns c = four-stored _ _ _ _ _ _ _ _ _ c.before.before.before.a.given c.before.before.b.given c.before.c.given c.d.given
+returns c = four_stored _ _ _ _ _ _ _ _ _ c.before.before.before.a.given c.before.before.b.given c.before.c.given c.d.given
 
 pub put-four-spec : {M : Type 1} → statement M
 put-four-spec =

@@ -1,5 +1,5 @@
 -- Four rows of four are the square.
-use Rattle.grid.proofs.Squares.{square-stored}
+use Rattle.grid.proofs.Squares.{square_stored}
 use borrow.Author.Rules.{rules}
 use Rattle.grid.proofs.put_square.Statement.{statement}
 use Rattle.grid.proofs.put_square.Tie as tie
@@ -57,7 +57,7 @@ same_length c = search rules
 
 -- src/square.rt:48:1
 returns : tie.Need-returns
-returns c = square-stored _ _ _ _ c.before.before.before.before.before.before.before.before.before.before.before.before.before.put_four.ensures c.before.before.before.before.before.before.before.before.before.put-four2.ensures c.before.before.before.before.before.put-four3.ensures c.before.put-four4.ensures
+returns c = square_stored _ _ _ _ c.before.before.before.before.before.before.before.before.before.before.before.before.before.put_four.ensures c.before.before.before.before.before.before.before.before.before.put-four2.ensures c.before.before.before.before.before.put-four3.ensures c.before.put-four4.ensures
 
 pub put-square-spec : {M : Type 1} → statement M
 put-square-spec =

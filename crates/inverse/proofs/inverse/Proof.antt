@@ -9,10 +9,10 @@ use Rattle.picture.specs.declared.mode.Mode.{Mode}
 use Rattle.picture.specs.Sizes.{macroblocks}
 use Rattle.picture.specs.Modes.{mode_of}
 use Rattle.picture.specs.Planes.{Planes, planes}
-use Rattle.picture.specs.Numbers.{planeChecks, sampleCheck, inverseNumber}
-use Rattle.transform.specs.Transform.{inverseBy}
-use Rattle.transform.specs.Wraps.{inverseWrapsBy}
-use Rattle.picture.proofs.CheckLaws.{answers, refused-call, ready_call, ready-sized}
+use Rattle.picture.specs.Numbers.{plane_checks, sample_check, inverse_number}
+use Rattle.transform.specs.Transform.{inverse_by}
+use Rattle.transform.specs.Wraps.{inverse_wraps_by}
+use Rattle.picture.proofs.CheckLaws.{answers, refused_call, ready_call, ready-sized}
 use Rattle.inverse.proofs.inverse.Statement.{statement}
 use Rattle.inverse.proofs.inverse.Tie as tie
 
@@ -21,13 +21,13 @@ given s = planes s.args.dc.now s.args.low.now s.args.high.now
 
 -- the checks of the lengths
 abbrev rest : tie.Start → List ℕ
-rest s = planeChecks (macroblocks s.args.size) (given s) ++ sampleCheck (macroblocks s.args.size) s.args.samples.now
+rest s = plane_checks (macroblocks s.args.size) (given s) ++ sample_check (macroblocks s.args.size) s.args.samples.now
 
 abbrev result : tie.Start → Mode → List ℤ
-result s m = inverseBy m s.args.size (given s)
+result s m = inverse_by m s.args.size (given s)
 
 abbrev told : tie.Start → Mode → Bool
-told s m = inverseWrapsBy m s.args.size (given s)
+told s m = inverse_wraps_by m s.args.size (given s)
 
 inverse-sized-requires : tie.Need-inverse-sized-requires
 inverse-sized-requires c κs =
@@ -37,18 +37,18 @@ inverse-sized-requires c κs =
     ready-sized s.args.mode s.args.size (rest s) (sym k.known.given.1 ∙ answers n.before.args.mode n.check-shape.ensures)
 
 returns : tie.Need-returns
-unfolding inverseNumber
+unfolding inverse_number
 returns c =
     let k = c.before.before in
     let n = k.before.before in
     let s = n.before in
     let e = sym k.number.given.1 ∙ answers n.before.args.mode n.check-shape.ensures in
-    let law = refused-call s.args.mode s.args.size (rest s) (result s (mode_of s.args.mode)) s.args.samples.now e in
-    rw (c.refused.ensures.0, c.refused.ensures.1) (law.0, ((refused-call s.args.mode s.args.size (rest s) (told s (mode_of s.args.mode)) false e).1, law.1))
+    let law = refused_call s.args.mode s.args.size (rest s) (result s (mode_of s.args.mode)) s.args.samples.now e in
+    rw (c.refused.ensures.0, c.refused.ensures.1) (law.0, ((refused_call s.args.mode s.args.size (rest s) (told s (mode_of s.args.mode)) false e).1, law.1))
 
-returns-2 : tie.Need-returns-2
-unfolding inverseNumber
-returns-2 c =
+returns_2 : tie.Need-returns-2
+unfolding inverse_number
+returns_2 c =
     let d = c.before in
     let k = d.before.before.before in
     let n = k.before.before in
@@ -59,4 +59,4 @@ returns-2 c =
     (law.0, ((ready_call s.args.mode s.args.size (rest s) e (told s) false a.0 a.1.0).1, law.1))
 
 pub inverse-spec : {M : Type 1} → statement M
-inverse-spec = tie.close (tie.spec (λ c κs. search rules) (λ c. search rules) (λ c κs. search rules) (λ c. search rules) inverse-sized-requires returns (λ c. search rules) returns-2)
+inverse-spec = tie.close (tie.spec (λ c κs. search rules) (λ c. search rules) (λ c κs. search rules) (λ c. search rules) inverse-sized-requires returns (λ c. search rules) returns_2)

@@ -7,8 +7,8 @@ use lib.ListN.{length, take}
 use lib.Seq.{length-take-le, take_at}
 use Rattle.lifting.specs.Program.{run}
 use Rattle.picture.specs.Sizes.{macroblocks}
-use Rattle.transform.specs.Grids.{secondGrid}
-use Rattle.transform.specs.Transform.{levelTwo, quarterBy, inverseBy}
+use Rattle.transform.specs.Grids.{second_grid}
+use Rattle.transform.specs.Transform.{level_two, quarter_by, inverse_by}
 use Rattle.inverse.proofs.inverse_samples.Statement.{statement}
 use Rattle.inverse.proofs.inverse_samples.Tie as tie
 
@@ -27,7 +27,7 @@ level-one-requires c κs =
     (s.requires.0, (front s e ∙ ap (λ (k : ℕ). 16 * k) e, (s.requires.1.0.dc, s.requires.1.0.low)))
 
 returns : tie.Need-returns
-unfolding inverseBy quarterBy
+unfolding inverse_by quarter_by
 returns c =
     let t = c.before in
     let o = t.before.before.before in
@@ -36,7 +36,7 @@ returns c =
     let a = s.args in
     let e = n.macroblocks.ensures.0 in
     t.level-two.ensures.0
-    ∙ ap (λ v. run (levelTwo a.mode a.size) (secondGrid a.size.width.0 a.size.height.0 v a.high.now))
+    ∙ ap (λ v. run (level_two a.mode a.size) (second_grid a.size.width.0 a.size.height.0 v a.high.now))
     (take_at _ _ _ (o.level-one.auto.0 ∙ front s e ∙ ap (λ (k : ℕ). 16 * k) e) ∙ o.level-one.ensures)
 
 pub inverse-samples-spec : {M : Type 1} → statement M

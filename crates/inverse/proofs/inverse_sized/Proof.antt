@@ -8,11 +8,11 @@ use lib.IntN.{ℤ}
 use lib.ListN.{length}
 use Rattle.picture.specs.Sizes.{macroblocks}
 use Rattle.picture.specs.Planes.{Planes, planes}
-use Rattle.picture.specs.Refusals.{samplesLength}
-use Rattle.picture.specs.Numbers.{first_of, settled, planeChecks, sampleCheck}
-use Rattle.transform.specs.Transform.{inverseBy}
-use Rattle.transform.specs.Wraps.{inverseWrapsBy}
-use Rattle.picture.proofs.CheckLaws.{counted, refused-before, refused-length, passed_length, planes-fit}
+use Rattle.picture.specs.Refusals.{samples_length}
+use Rattle.picture.specs.Numbers.{first_of, settled, plane_checks, sample_check}
+use Rattle.transform.specs.Transform.{inverse_by}
+use Rattle.transform.specs.Wraps.{inverse_wraps_by}
+use Rattle.picture.proofs.CheckLaws.{counted, refused_before, refused-length, passed_length, planes-fit}
 use Rattle.inverse.proofs.inverse_sized.Statement.{statement}
 use Rattle.inverse.proofs.inverse_sized.Tie as tie
 
@@ -23,37 +23,37 @@ abbrev n : tie.Start → ℕ
 n s = macroblocks s.args.size
 
 abbrev result : tie.Start → List ℤ
-result s = inverseBy s.args.mode s.args.size (given s)
+result s = inverse_by s.args.mode s.args.size (given s)
 
 abbrev told : tie.Start → Bool
-told s = inverseWrapsBy s.args.mode s.args.size (given s)
+told s = inverse_wraps_by s.args.mode s.args.size (given s)
 
 -- the number of the planes' checks
-number : (c : tie.After-check-planes) → let s = c.before.before in c.check-planes.result ≡ first_of (planeChecks (n s) (given s))
-number c = let s = c.before.before in counted (λ (k : ℕ). planeChecks k (given s)) c.check-planes.ensures c.before.macroblocks.ensures.0
+number : (c : tie.After-check-planes) → let s = c.before.before in c.check-planes.result ≡ first_of (plane_checks (n s) (given s))
+number c = let s = c.before.before in counted (λ (k : ℕ). plane_checks k (given s)) c.check-planes.ensures c.before.macroblocks.ensures.0
 
 -- the length that the samples are held to
 want : (c : tie.After-check-planes) → 256 * c.before.macroblocks.result.0 ≡ 256 * n c.before.before
 want c = ap (λ (k : ℕ). 256 * k) c.before.macroblocks.ensures.0
 
 -- a refusal: the number, and that nothing is told and nothing written
-module _ (s : tie.Start) {r : ℕ} (e : r ≡ first_of (planeChecks (n s) (given s))) where
-  before : (r ≡ 0 → ⊥) → (r ≡ first_of (planeChecks (n s) (given s) ++ sampleCheck (n s) s.args.samples.now)) × ((false ≡ settled r (told s) false) × (s.args.samples.now ≡ settled r (result s) s.args.samples.now))
+module _ (s : tie.Start) {r : ℕ} (e : r ≡ first_of (plane_checks (n s) (given s))) where
+  before : (r ≡ 0 → ⊥) → (r ≡ first_of (plane_checks (n s) (given s) ++ sample_check (n s) s.args.samples.now)) × ((false ≡ settled r (told s) false) × (s.args.samples.now ≡ settled r (result s) s.args.samples.now))
   before h =
-      let law = refused-before (planeChecks (n s) (given s)) samplesLength (length s.args.samples.now) (256 * n s) (result s) s.args.samples.now e h in
-      (law.0, ((refused-before (planeChecks (n s) (given s)) samplesLength (length s.args.samples.now) (256 * n s) (told s) false e h).1, law.1))
+      let law = refused_before (plane_checks (n s) (given s)) samples_length (length s.args.samples.now) (256 * n s) (result s) s.args.samples.now e h in
+      (law.0, ((refused_before (plane_checks (n s) (given s)) samples_length (length s.args.samples.now) (256 * n s) (told s) false e h).1, law.1))
 
   last : r ≡ 0 → (length s.args.samples.now ≡ 256 * n s → ⊥)
-      → (samplesLength ≡ first_of (planeChecks (n s) (given s) ++ sampleCheck (n s) s.args.samples.now)) × ((false ≡ settled samplesLength (told s) false) × (s.args.samples.now ≡ settled samplesLength (result s) s.args.samples.now))
-  last z h = let law = refused-length (planeChecks (n s) (given s)) samplesLength (length s.args.samples.now) (256 * n s) (result s) s.args.samples.now e tt z h in (law.0, (refl, law.1))
+      → (samples_length ≡ first_of (plane_checks (n s) (given s) ++ sample_check (n s) s.args.samples.now)) × ((false ≡ settled samples_length (told s) false) × (s.args.samples.now ≡ settled samples_length (result s) s.args.samples.now))
+  last z h = let law = refused-length (plane_checks (n s) (given s)) samples_length (length s.args.samples.now) (256 * n s) (result s) s.args.samples.now e tt z h in (law.0, (refl, law.1))
 
 returns : tie.Need-returns
 returns c =
     let k = c.before.before in
     rw (c.refused.ensures.0, c.refused.ensures.1) (before k.before.before (number k) c.before.if1.true)
 
-returns-2 : tie.Need-returns-2
-returns-2 c =
+returns_2 : tie.Need-returns-2
+returns_2 c =
     let f = c.before in
     let e = f.before.before in
     let k = e.before in
@@ -75,9 +75,9 @@ returns-3 c =
     let k = e.before in
     let s = k.before.before in
     rw (c.done.ensures.0, c.done.ensures.1)
-    (passed_length (planeChecks (n s) (given s)) samplesLength (length s.args.samples.now) (256 * n s) (result s) s.args.samples.now (number k) e.if1.false (f.if2.false ∙ want k), (d.inverse-told.ensures.1, d.inverse-told.ensures.0))
+    (passed_length (plane_checks (n s) (given s)) samples_length (length s.args.samples.now) (256 * n s) (result s) s.args.samples.now (number k) e.if1.false (f.if2.false ∙ want k), (d.inverse-told.ensures.1, d.inverse-told.ensures.0))
 
 pub inverse-sized-spec : {M : Type 1} → statement M
 inverse-sized-spec =
     tie.close
-    (tie.spec (λ c κs. search rules) (λ c κs. search rules) (λ c κs. search rules) returns (λ c. search rules) (λ c. search rules) (λ c κs. search rules) returns-2 inverse-told-requires (λ c κs. search rules) (λ c. search rules) returns-3)
+    (tie.spec (λ c κs. search rules) (λ c κs. search rules) (λ c κs. search rules) returns (λ c. search rules) (λ c. search rules) (λ c κs. search rules) returns_2 inverse-told-requires (λ c κs. search rules) (λ c. search rules) returns-3)

@@ -1,12 +1,12 @@
 -- Four numbers of the grid through the filter and back to their places.
 use borrow.Author.Rules.{rules}
-use Rattle.transform.specs.Level.{fourFilterAt}
-use Rattle.grid.proofs.Squares.{four-used}
+use Rattle.transform.specs.Level.{four_filter_at}
+use Rattle.grid.proofs.Squares.{four_used}
 use Rattle.inverse_levels.proofs.four_filter_at.Statement.{statement}
 use Rattle.inverse_levels.proofs.four_filter_at.Tie as tie
 
 returns : tie.Need-returns
-unfolding fourFilterAt
+unfolding four_filter_at
 returns c =
     let told = c.before.before in
     let filtered = told.before.before in
@@ -14,7 +14,7 @@ returns c =
     let third = fourth.before in
     let second = third.before in
     let first = second.before in
-    four-used _ _ _ _ first.before.get-four.result first.before.get-four.ensures first.four-filter-arg.given second.four-filter-arg2.given third.four-filter-arg3.given
+    four_used _ _ _ _ first.before.get-four.result first.before.get-four.ensures first.four-filter-arg.given second.four-filter-arg2.given third.four-filter-arg3.given
     fourth.four-filter-arg4.given told.struct_told.given filtered.four-filter.ensures c.before.put_four.ensures
 
 pub four-filter-at-spec : {M : Type 1} → statement M

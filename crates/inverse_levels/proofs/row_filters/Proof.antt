@@ -5,13 +5,13 @@ use native.Mathlib.Omega.{arith}
 use native.Mathlib.Nat.{mul-le-mul_right}
 use lib.ListN.{length}
 use Rattle.lifting.specs.Program.{run, each}
-use Rattle.transform.specs.Level.{cell, fourFilterAt, rowFilters}
+use Rattle.transform.specs.Level.{cell, four_filter_at, row_filters}
 use Rattle.inverse_levels.proofs.Loops.{each_none, each_more}
 use Rattle.inverse_levels.proofs.row_filters.Statement.{statement}
 use Rattle.inverse_levels.proofs.row_filters.Tie as tie
 
 abbrev invariant-loop : tie.invariant-loop
-invariant-loop grid₀ p q r first uses i₀ grid i = (i ≤ p - 1) × (length grid ≡ length grid₀) × (grid ≡ run (each i (λ k. fourFilterAt 1 (cell p r (4 * k + 2)))) grid₀)
+invariant-loop grid₀ p q r first uses i₀ grid i = (i ≤ p - 1) × (length grid ≡ length grid₀) × (grid ≡ run (each i (λ k. four_filter_at 1 (cell p r (4 * k + 2)))) grid₀)
 
 abbrev decreases-loop : tie.decreases-loop
 decreases-loop grid₀ p q r first uses i₀ grid i = p - i
@@ -28,10 +28,10 @@ loop-again c =
     let l = d.before.before.before in
     let s = l.before in
     let v = l.loop.invariant in
-    (omega arith, d.four-filter-at.auto.0 ∙ v.1, each_more _ _ _ _ _ v.2 (d.four-filter-at.ensures ∙ ap (λ (k : ℕ). run (fourFilterAt 1 k) l.loop.grid) (place s.args.p s.args.r l.loop.i)))
+    (omega arith, d.four-filter-at.auto.0 ∙ v.1, each_more _ _ _ _ _ v.2 (d.four-filter-at.ensures ∙ ap (λ (k : ℕ). run (four_filter_at 1 k) l.loop.grid) (place s.args.p s.args.r l.loop.i)))
 
 returns : tie.Need-returns invariant-loop decreases-loop
-unfolding rowFilters
+unfolding row_filters
 returns c = let e : c.before.loop.i ≡ c.before.before.args.p - 1 = omega (arith, c.before.loop.invariant.0) in rw e at c.before.loop.invariant.2
 
 pub row-filters-spec : {M : Type 1} → statement M

@@ -5,15 +5,15 @@ use mathlib.Core.Logic.{⊎_elim}
 use native.Mathlib.Omega.{arith}
 use lib.ListN.{length}
 use Rattle.lifting.specs.Program.{run, each}
-use Rattle.transform.specs.Level.{cell, squareFilterAt}
-use Rattle.inverse_levels.proofs.Loops.{each_none, few-squares}
-use Rattle.inverse_levels.proofs.Side.{each-plus}
+use Rattle.transform.specs.Level.{cell, square_filter_at}
+use Rattle.inverse_levels.proofs.Loops.{each_none, few_squares}
+use Rattle.inverse_levels.proofs.Side.{each_plus}
 use Rattle.inverse_levels.proofs.square_filters_across.Statement.{statement}
 use Rattle.inverse_levels.proofs.square_filters_across.Tie as tie
 
 abbrev invariant-loop : tie.invariant-loop
 invariant-loop grid₀ p j w first windows i₀ grid i =
-    (i ≤ p - 1) × (length grid ≡ length grid₀) × (grid ≡ run (each i (λ k. squareFilterAt (4 * p) (cell p (4 * j + 2) (4 * k + 2)))) grid₀)
+    (i ≤ p - 1) × (length grid ≡ length grid₀) × (grid ≡ run (each i (λ k. square_filter_at (4 * p) (cell p (4 * j + 2) (4 * k + 2)))) grid₀)
 
 abbrev decreases-loop : tie.decreases-loop
 decreases-loop grid₀ p j w first windows i₀ grid i = p - i
@@ -22,7 +22,7 @@ place : (j p i m : ℕ) → (4 * j + 2) * (4 * p) + 2 + 4 * i + 4 * m ≡ cell p
 place j p i m = omega arith
 
 few : (s : tie.Start invariant-loop decreases-loop) → s.args.j * s.args.p ≤ 3469200
-few s = few-squares s.args.j s.args.p (omega (arith, s.requires.1)) (omega (arith, s.requires.1))
+few s = few_squares s.args.j s.args.p (omega (arith, s.requires.1)) (omega (arith, s.requires.1))
 
 -- a turn's windows: at least one, at most four, and no more than are left
 windows : (c : tie.Joined1 invariant-loop decreases-loop) → (0 < c.if1.n) × (c.if1.n ≤ 4) × (c.before.before.loop.i + c.if1.n ≤ c.before.before.before.args.p - 1)
@@ -72,8 +72,8 @@ loop-again c =
     let v = l.loop.invariant in (
       k.2,
       d.four-windows.auto.0 ∙ v.1,
-      each-plus l.loop.i t.if1.n _ _ s.args.grid.now l.loop.grid v.2 d.four-windows.ensures
-          (λ m h. ap (squareFilterAt (4 * s.args.p)) (place s.args.j s.args.p l.loop.i m)),
+      each_plus l.loop.i t.if1.n _ _ s.args.grid.now l.loop.grid v.2 d.four-windows.ensures
+          (λ m h. ap (square_filter_at (4 * s.args.p)) (place s.args.j s.args.p l.loop.i m)),
     )
 
 same_length : tie.Need-same-length invariant-loop decreases-loop

@@ -4,14 +4,14 @@ use mathlib.Core.Path.{◌≡◌, refl, ◌∙◌}
 use native.Mathlib.Omega.{arith}
 use lib.ListN.{length}
 use Rattle.lifting.specs.Program.{run, each}
-use Rattle.inverse_levels.specs.Stages.{windowRow}
+use Rattle.inverse_levels.specs.Stages.{window_row}
 use Rattle.inverse_levels.proofs.Loops.{each_none, each_more}
 use Rattle.grid.proofs.Rows.{row_inside}
 use Rattle.inverse_levels.proofs.window_rows.Statement.{statement}
 use Rattle.inverse_levels.proofs.window_rows.Tie as tie
 
 abbrev invariant-loop : tie.invariant-loop
-invariant-loop grid₀ p q b n k₀ grid k = (k ≤ n) × (length grid ≡ length grid₀) × (grid ≡ run (each k (λ i. windowRow p (b + i))) grid₀)
+invariant-loop grid₀ p q b n k₀ grid k = (k ≤ n) × (length grid ≡ length grid₀) × (grid ≡ run (each k (λ i. window_row p (b + i))) grid₀)
 
 abbrev decreases-loop : tie.decreases-loop
 decreases-loop grid₀ p q b n k₀ grid k = n - k

@@ -9,16 +9,16 @@ use Rattle.lifting.proofs.Bits.{back}
 use Rattle.transform.specs.Level.{cell, square}
 use Rattle.picture.specs.Table.{table}
 use Rattle.transform.specs.Grids.{coefficients}
-use Rattle.picture.proofs.CheckLaws.{few-macroblocks}
+use Rattle.picture.proofs.CheckLaws.{few_macroblocks}
 use Rattle.inverse_levels.specs.Filled.{Filled}
-use Rattle.inverse_levels.proofs.Filled.{filled_none, filled-one, filled-join}
+use Rattle.inverse_levels.proofs.Filled.{filled_none, filled_one, filled_join}
 use Rattle.grid.proofs.Rows.{row_inside}
-use Rattle.inverse_one.specs.Rows.{planeNumbers, Between}
+use Rattle.inverse_one.specs.Rows.{plane_numbers, Between}
 use Rattle.inverse_one.proofs.grid_row.Statement.{statement}
 use Rattle.inverse_one.proofs.grid_row.Tie as tie
 
 abbrev invariant-loop : tie.invariant-loop
-invariant-loop view₀ r at dc low m from p w c₀ view c = (c ≤ p) × Filled p (planeNumbers dc low) view₀ (Between m (m + c)) view
+invariant-loop view₀ r at dc low m from p w c₀ view c = (c ≤ p) × Filled p (plane_numbers dc low) view₀ (Between m (m + c)) view
 
 abbrev decreases-loop : tie.decreases-loop
 decreases-loop view₀ r at dc low m from p w c₀ view c = p - c
@@ -46,17 +46,17 @@ module _ (h : tie.In-loop invariant-loop decreases-loop) where
   beside : column < W
   beside = omega (arith, h.loop-test)
 
-  macroblock-inside : s.args.m + column < W * H
-  macroblock-inside = omega (arith, beside, row_inside s.args.r H W s.pre.0.1, s.pre.1.0.1)
+  macroblock_inside : s.args.m + column < W * H
+  macroblock_inside = omega (arith, beside, row_inside s.args.r H W s.pre.0.1, s.pre.1.0.1)
 
-  square-inside : s.args.at + 4 * column + 4 * W + 4 * W + 4 * W + 3 < 16 * (W * H)
-  square-inside = omega (arith, beside, row_inside s.args.r H W s.pre.0.1, s.pre.1.0.0)
+  square_inside : s.args.at + 4 * column + 4 * W + 4 * W + 4 * W + 3 < 16 * (W * H)
+  square_inside = omega (arith, beside, row_inside s.args.r H W s.pre.0.1, s.pre.1.0.0)
 
   low-place : s.args.from + 15 * column ≡ 15 * (s.args.m + column)
   low-place = omega (arith, s.pre.1.0.1, s.pre.1.0.2)
 
   at_most : W * H ≤ 216825
-  at_most = few-macroblocks s.pre.0.0
+  at_most = few_macroblocks s.pre.0.0
 
 loop-holds : tie.Need-loop-init invariant-loop decreases-loop
 loop-holds c = (omega arith, filled_none _ _ _ _ (λ b h. absurd (omega (arith, h))))
@@ -64,7 +64,7 @@ loop-holds c = (omega arith, filled_none _ _ _ _ (λ b h. absurd (omega (arith, 
 put-coefficients-requires : tie.Need-put-coefficients-requires invariant-loop decreases-loop
 put-coefficients-requires c κs =
     let h = c.before.before in
-    (omega (arith, square-inside h, h.before.loop.invariant.1.len, (s h).requires.1.1.0), omega (arith, macroblock-inside h, low-place h, (s h).requires.1.1.1.1))
+    (omega (arith, square_inside h, h.before.loop.invariant.1.len, (s h).requires.1.1.0), omega (arith, macroblock_inside h, low-place h, (s h).requires.1.1.1.1))
 
 loop-again : tie.Need-loop-preserved invariant-loop decreases-loop
 loop-again c =
@@ -76,8 +76,8 @@ loop-again c =
     let n = m + column h in
     let wide = (s h).requires.0.0.wide in (
       omega (arith, beside h),
-      filled-join wide (Between m (m + (column h + 1))) (λ b. ℕ_discrete b n) (λ b z o. (z.0, omega (arith, z, o))) (λ b z. (z.0, omega (arith, z))) (λ b z. (omega (arith, z), omega (arith, z))) (λ b k z o. refl) l.invariant.1
-          (filled-one wide (H h) n _ (macroblock-inside h) (omega (arith, l.invariant.1.len, (s h).requires.1.1.0))
+      filled_join wide (Between m (m + (column h + 1))) (λ b. ℕ_discrete b n) (λ b z o. (z.0, omega (arith, z, o))) (λ b z. (z.0, omega (arith, z))) (λ b z. (omega (arith, z), omega (arith, z))) (λ b k z o. refl) l.invariant.1
+          (filled_one wide (H h) n _ (macroblock_inside h) (omega (arith, l.invariant.1.len, (s h).requires.1.1.0))
           (rw (h.before.before.before.blocks2.ensures, low-place h) at d.put-coefficients.ensures
           ∙ ap₂ (λ (i : ℕ) x. put (square (4 * W h) i) (table 16 (coefficients x (λ k. at (s h).args.low.now (15 * n + k)))) l.view) (square-place (W h) (s h).args.r (column h) (s h).args.at m (beside h) (s h).requires.1.0.0 (s h).requires.1.0.1) (back a.put-coefficients-arg2.given))),
     )
@@ -92,4 +92,4 @@ returns c =
 pub grid-row-spec : {M : Type 1} → statement M
 grid-row-spec =
     tie.close
-    (tie.spec invariant-loop decreases-loop (λ c. omega arith) (λ c κs. omega (arith, c.before.requires.0.0.most-wide)) (λ c. omega arith) loop-holds (λ c. omega (arith, beside c.before, at_most c.before)) (λ c. omega (arith, square-inside c.before, at_most c.before)) (λ c. omega (arith, macroblock-inside c.before, at_most c.before)) (λ c. omega (arith, macroblock-inside c.before, at_most c.before)) (λ c. omega (arith, macroblock-inside c.before, (s c.before).pre.1.1.1.0)) (λ c. omega (arith, beside c.before.before, (s c.before.before).pre.0.0.most-wide)) (λ c. omega (arith, macroblock-inside c.before.before, low-place c.before.before, at_most c.before.before)) put-coefficients-requires (λ c. omega arith) (λ c. omega arith) loop-again (λ c. c.before.loop.invariant.1.len) returns)
+    (tie.spec invariant-loop decreases-loop (λ c. omega arith) (λ c κs. omega (arith, c.before.requires.0.0.most-wide)) (λ c. omega arith) loop-holds (λ c. omega (arith, beside c.before, at_most c.before)) (λ c. omega (arith, square_inside c.before, at_most c.before)) (λ c. omega (arith, macroblock_inside c.before, at_most c.before)) (λ c. omega (arith, macroblock_inside c.before, at_most c.before)) (λ c. omega (arith, macroblock_inside c.before, (s c.before).pre.1.1.1.0)) (λ c. omega (arith, beside c.before.before, (s c.before.before).pre.0.0.most-wide)) (λ c. omega (arith, macroblock_inside c.before.before, low-place c.before.before, at_most c.before.before)) put-coefficients-requires (λ c. omega arith) (λ c. omega arith) loop-again (λ c. c.before.loop.invariant.1.len) returns)

@@ -1,7 +1,7 @@
 -- The grid of the planes, its cores, and then the filters or nothing.
 use mathlib.Core.Path.{◌∙◌, ap}
 use Rattle.lifting.specs.Program.{run}
-use Rattle.inverse_levels.proofs.Stages.{level-parts}
+use Rattle.inverse_levels.proofs.Stages.{level_parts}
 use borrow.Author.Rules.{rules}
 use Rattle.inverse_one.proofs.level_one.Statement.{statement}
 use Rattle.inverse_one.proofs.level_one.Tie as tie
@@ -11,7 +11,7 @@ returns c =
     let e = c.before in
     let f = e.before.before.before in
     let t = f.before.before.before in
-    level-parts _ _ _ _ (t.cores.ensures ∙ ap (run _) t.before.before.before.before.before.first-grid.ensures) f.windows-if.ensures e.edges-if.ensures
+    level_parts _ _ _ _ (t.cores.ensures ∙ ap (run _) t.before.before.before.before.before.first-grid.ensures) f.windows-if.ensures e.edges-if.ensures
 
 pub level-one-spec : {M : Type 1} → statement M
 level-one-spec =

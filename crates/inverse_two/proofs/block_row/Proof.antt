@@ -7,10 +7,10 @@ use native.Mathlib.Omega.{arith}
 use native.Mathlib.Decide.{dec_lt}
 use native.Mathlib.Nat.{mul-le-mul_right}
 use Rattle.large_numbers.specs.Small.{Small}
-use Rattle.large_numbers.proofs.Small.{neither, small-part}
+use Rattle.large_numbers.proofs.Small.{neither, small_part}
 use Rattle.inverse_levels.proofs.Filled.{filled_none}
 use Rattle.inverse_two.specs.Blocks.{BlocksCored}
-use Rattle.inverse_two.proofs.Places.{four-filled, left-of, free-row}
+use Rattle.inverse_two.proofs.Places.{four_filled, left-of, free_row}
 use Rattle.inverse_two.proofs.block_row.Statement.{statement}
 use Rattle.inverse_two.proofs.block_row.Tie as tie
 
@@ -58,9 +58,9 @@ loop-again c =
     let wide = s.requires.0.0 in
     let columns : l.before.before.samples.result.0 ≡ 4 * (4 * W) = omega arith in (
       omega (arith, l.loop.invariant.0),
-      left-of wide s.args.high.now y (y + 1) i (i + 1) l.loop.c W (omega arith) (omega (arith, h.loop-test, l.loop.invariant.0)) (omega (arith, h.loop-test)) (free-row wide y i (i + 1) l.loop.c W (omega (arith, h.loop-test))) l.loop.invariant.1
-          (four-filled wide y i _ _ _ (omega (arith, h.loop-test, l.loop.invariant.0)) (omega (arith, p.0)) (omega (arith, p.1)) (omega (arith, p.2, order y i W s.requires.0.2)) (rw columns at d.four-blocks.ensures.0)),
-      neither (λ right here k n m. by_cases (dec_lt k l.loop.c) (λ o. small-part s.args.high.now here (omega arith) (omega (arith, o))) (λ o. right k (omega (arith, o)) m)) l.loop.invariant.2 d.four-blocks.ensures.1,
+      left-of wide s.args.high.now y (y + 1) i (i + 1) l.loop.c W (omega arith) (omega (arith, h.loop-test, l.loop.invariant.0)) (omega (arith, h.loop-test)) (free_row wide y i (i + 1) l.loop.c W (omega (arith, h.loop-test))) l.loop.invariant.1
+          (four_filled wide y i _ _ _ (omega (arith, h.loop-test, l.loop.invariant.0)) (omega (arith, p.0)) (omega (arith, p.1)) (omega (arith, p.2, order y i W s.requires.0.2)) (rw columns at d.four-blocks.ensures.0)),
+      neither (λ right here k n m. by_cases (dec_lt k l.loop.c) (λ o. small_part s.args.high.now here (omega arith) (omega (arith, o))) (λ o. right k (omega (arith, o)) m)) l.loop.invariant.2 d.four-blocks.ensures.1,
     )
 
 returns : tie.Need-returns invariant-loop decreases-loop

@@ -14,21 +14,21 @@ use Rattle.picture.specs.Sizes.{macroblocks}
 use Rattle.picture.specs.declared.size.Size.{Size}
 use Rattle.grid.proofs.Rows.{row_inside, row-above}
 use Rattle.large_numbers.specs.Small.{Small}
-use Rattle.large_numbers.proofs.Small.{neither, small-none, small-join, small-within}
-use Rattle.inverse_two.specs.Blocks.{blockNumbers, cored}
-use Rattle.inverse_two.proofs.Windows.{squaresIf}
-use Rattle.inverse_two.proofs.Reached.{Reached, reached-none, reached-next, reached-all}
+use Rattle.large_numbers.proofs.Small.{neither, small-none, small_join, small-within}
+use Rattle.inverse_two.specs.Blocks.{block_numbers, cored}
+use Rattle.inverse_two.proofs.Windows.{squares_if}
+use Rattle.inverse_two.proofs.Reached.{Reached, reached_none, reached_next, reached_all}
 use Rattle.inverse_two.proofs.Cored.{level-two-is}
 use Rattle.inverse_two.proofs.level_two.Statement.{statement}
 use Rattle.inverse_two.proofs.level_two.Tie as tie
 
 -- the grid of all blocks after their core transforms
 abbrev blocks : Size → List ℤ → List ℤ → List ℤ
-blocks size old high = grid (4 * size.width.0) (4 * size.height.0) (cored (blockNumbers size.width.0 (take (16 * macroblocks size) old) high))
+blocks size old high = grid (4 * size.width.0) (4 * size.height.0) (cored (block_numbers size.width.0 (take (16 * macroblocks size) old) high))
 
 abbrev Up : Bool → Size → List ℤ → List ℤ → ℕ → List ℤ → Type 0
 Up filtered size old high y v =
-    Reached (4 * size.width.0) (4 * size.height.0) old (blocks size old high) (run (squaresIf filtered (4 * size.width.0) (4 * size.height.0)) (blocks size old high)) y v
+    Reached (4 * size.width.0) (4 * size.height.0) old (blocks size old high) (run (squares_if filtered (4 * size.width.0) (4 * size.height.0)) (blocks size old high)) y v
 
 abbrev invariant-loop : tie.invariant-loop
 invariant-loop samples₀ filtered size high width w across down at₀ b₀ from₀ r₀ windows₀ large₀ samples at b from r windows large =
@@ -101,12 +101,12 @@ loop-again c =
       omega (arith, v.1),
       λ h. refl,
       λ h. absurd (omega (arith, h, v.0, v.1)),
-      reached-next s.pre.0.wide (H l) s.args.samples.now s.args.high.now s.pre.1.0 s.args.filtered (4 * (l.loop.r - 1)) l.loop.windows (4 * l.loop.r)
+      reached_next s.pre.0.wide (H l) s.args.samples.now s.args.high.now s.pre.1.0 s.args.filtered (4 * (l.loop.r - 1)) l.loop.windows (4 * l.loop.r)
           (omega (arith, v.0)) (omega (arith, v.1)) (room l) (upper l) (lowest l) v.4 (rw below at m.macroblock-row.ensures.0) (rw blocks-are.0 at f.windows-if.ensures),
       omega (arith, v.5, up h, w),
       omega (arith, v.6, up h, blocks-are.0),
       omega (arith, v.7, up h),
-      neither (λ under here. small-join s.args.high.now (omega arith) here under) v.8 m.macroblock-row.ensures.1,
+      neither (λ under here. small_join s.args.high.now (omega arith) here under) v.8 m.macroblock-row.ensures.1,
     )
 
 top-row-requires : tie.Need-top-row-requires invariant-loop decreases-loop
@@ -157,17 +157,17 @@ returns c =
     let first : 4 * l.loop.r ≡ 4 = omega (arith, v.0) in
     let one : l.loop.r ≡ 1 = omega (arith, v.0) in (
       level-two-is a.filtered (W l) (H l) wide (take (16 * macroblocks a.size) a.samples.now) a.high.now
-          (reached-all wide (H l) a.samples.now a.high.now s.pre.1.0 a.filtered
-          (reached-next wide (H l) a.samples.now a.high.now s.pre.1.0 a.filtered 0 l.loop.windows 4 (omega arith) (omega (arith, s.pre.0.tall)) (omega (arith, room l, first))
+          (reached_all wide (H l) a.samples.now a.high.now s.pre.1.0 a.filtered
+          (reached_next wide (H l) a.samples.now a.high.now s.pre.1.0 a.filtered 0 l.loop.windows 4 (omega arith) (omega (arith, s.pre.0.tall)) (omega (arith, room l, first))
           (λ h. omega (arith, upper l (omega arith))) (λ h. omega (arith, lowest l (omega arith))) (rw first at v.4) t.top-row.ensures.0 (rw blocks-are.0 at f.windows-if2.ensures)))
           (rw (blocks-are.0, blocks-are.1) at e.edges-if.ensures),
-      neither (λ under here. small-within a.high.now (small-join a.high.now (omega (arith, rw one at v.7)) here under)) v.8 t.top-row.ensures.1,
+      neither (λ under here. small-within a.high.now (small_join a.high.now (omega (arith, rw one at v.7)) here under)) v.8 t.top-row.ensures.1,
     )
 
 pub level-two-spec : {M : Type 1} → statement M
 level-two-spec =
     tie.close
     (tie.spec invariant-loop decreases-loop (λ c. omega arith) (λ c κs. c.before.requires.0) (λ c. omega arith) (λ c κs. c.before.before.before.requires.0) (λ c. omega arith) (λ c. omega arith) (λ c. omega arith)
-    (λ c. let s = c.before.before.before.before.before.before.before in (s.requires.0.tall, omega arith, λ h. absurd (omega (arith, h)), λ h. refl, reached-none _ _ _ _ _, omega (arith, s.requires.1.0), omega (arith, s.requires.1.0), omega (arith, s.requires.1.1), λ e. small-none s.args.high.now (omega arith)))
+    (λ c. let s = c.before.before.before.before.before.before.before in (s.requires.0.tall, omega arith, λ h. absurd (omega (arith, h)), λ h. refl, reached_none _ _ _ _ _, omega (arith, s.requires.1.0), omega (arith, s.requires.1.0), omega (arith, s.requires.1.1), λ e. small-none s.args.high.now (omega arith)))
     (λ c. omega arith) (λ c. omega (arith, (start c.before).pre.0.most-wide)) (λ c. omega (arith, c.before.loop.invariant.5, up c)) (λ c. omega (arith, (start c.before).pre.0.most-wide)) (λ c. omega (arith, c.before.loop.invariant.6, up c)) (λ c. omega (arith, (start c.before).pre.0.most-wide)) (λ c. omega (arith, c.before.loop.invariant.7, up c)) macroblock-row-requires (λ c. let s = start c.before.before.before.before.before in omega (arith, c.before.before.before.before.before.loop.invariant.1, s.pre.0.most-tall)) windows-if-requires (λ c. omega arith) loop-again
     top-row-requires windows-if-requires-2 edges-if-requires same_length returns)

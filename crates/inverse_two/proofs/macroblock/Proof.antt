@@ -8,10 +8,10 @@ use lib.ListN.{length}
 use Rattle.picture.proofs.CheckLaws.{few}
 use Rattle.grid.proofs.Rows.{row-above}
 use Rattle.large_numbers.specs.Small.{Small}
-use Rattle.large_numbers.proofs.Small.{neither, small-none, small-join, small-part}
+use Rattle.large_numbers.proofs.Small.{neither, small-none, small_join, small_part}
 use Rattle.inverse_levels.proofs.Filled.{filled_none}
 use Rattle.inverse_two.specs.Blocks.{BlocksCored}
-use Rattle.inverse_two.proofs.Places.{four-filled, above}
+use Rattle.inverse_two.proofs.Places.{four_filled, above}
 use Rattle.inverse_two.proofs.macroblock.Statement.{statement}
 use Rattle.inverse_two.proofs.macroblock.Tie as tie
 
@@ -36,14 +36,14 @@ order r j c W h = let e : (4 * r + j) / 4 ≡ r = omega arith in rw e (omega ari
 
 -- row j of the macroblock's blocks lies in the picture, and so do its numbers
 module _ (W r c j n : ℕ) (beside : c < W) (few-rows : j < 4) (long : 256 * (r * W + W) ≤ n) where
-  no-further : j * W ≤ 3 * W
-  no-further = mul-le-mul_right W (omega arith)
+  no_further : j * W ≤ 3 * W
+  no_further = mul-le-mul_right W (omega arith)
 
-  samples-inside : (w i : ℕ) → w ≡ 4 * (4 * W) → i ≡ r * (256 * W) + 16 * c + j * (64 * W) → i + w + w + w + 15 < n
-  samples-inside w i e there = omega (arith, no-further)
+  samples_inside : (w i : ℕ) → w ≡ 4 * (4 * W) → i ≡ r * (256 * W) + 16 * c + j * (64 * W) → i + w + w + w + 15 < n
+  samples_inside w i e there = omega (arith, no_further)
 
-  numbers-inside : (i : ℕ) → i ≡ r * (16 * W) + 4 * c + j * (4 * W) → i + 3 < n
-  numbers-inside i e = omega (arith, no-further)
+  numbers_inside : (i : ℕ) → i ≡ r * (16 * W) + 4 * c + j * (4 * W) → i + 3 < n
+  numbers_inside i e = omega (arith, no_further)
 
 -- the places of the row of blocks that is filled next
 module _ (h : tie.In-loop invariant-loop decreases-loop) where
@@ -92,7 +92,7 @@ four-blocks-requires c κs =
     let a = (s h).args in
     let p = (s h).requires in
     let long : 256 * (a.r * W h + W h) ≤ length (l h).loop.samples = omega (arith, (l h).loop.invariant.4.len, p.1.1.0) in (
-      (omega (arith, p.0.0), samples-inside (W h) a.r a.c (j h) _ p.0.0 (low h) long _ _ (columns h) (samples-at h), numbers-inside (W h) a.r a.c (j h) _ p.0.0 (low h) long _ (numbers-at h)),
+      (omega (arith, p.0.0), samples_inside (W h) a.r a.c (j h) _ p.0.0 (low h) long _ _ (columns h) (samples-at h), numbers_inside (W h) a.r a.c (j h) _ p.0.0 (low h) long _ (numbers-at h)),
       omega (arith, high-at h, low h, p.0.0, p.1.1.1),
     )
 
@@ -110,8 +110,8 @@ loop-again c =
       omega (arith, v.2, up h),
       omega (arith, v.3, h.loop-test),
       above wide a.high.now y (y + 1) (4 * a.r + (l h).loop.k) (4 * a.r + 4) a.c (a.c + 1) (omega arith) (omega (arith, low h)) (omega (arith, h.loop-test)) v.4
-          (four-filled wide y a.c _ _ _ (s h).requires.0.0 (omega (arith, samples-at h)) (omega (arith, numbers-at h)) (omega (arith, high-at h, order a.r (j h) a.c (W h) (low h))) (rw (columns h) at d.four-blocks.ensures.0)),
-      neither (λ below here. small-join a.high.now (omega arith) here below) v.5 d.four-blocks.ensures.1,
+          (four_filled wide y a.c _ _ _ (s h).requires.0.0 (omega (arith, samples-at h)) (omega (arith, numbers-at h)) (omega (arith, high-at h, order a.r (j h) a.c (W h) (low h))) (rw (columns h) at d.four-blocks.ensures.0)),
+      neither (λ below here. small_join a.high.now (omega arith) here below) v.5 d.four-blocks.ensures.1,
     )
 
 returns : tie.Need-returns invariant-loop decreases-loop
@@ -120,7 +120,7 @@ returns c =
     let blocks = c.before.before.before.before.before in
     let s = blocks.before in
     let e : 4 * s.args.r + l.k ≡ 4 * s.args.r = omega (arith, c.loop-test) in
-    (rw (quarter blocks, e) at l.invariant.4, λ h. small-part s.args.high.now (l.invariant.5 h) (omega (arith, l.invariant.3, c.loop-test)) (omega arith))
+    (rw (quarter blocks, e) at l.invariant.4, λ h. small_part s.args.high.now (l.invariant.5 h) (omega (arith, l.invariant.3, c.loop-test)) (omega arith))
 
 pub macroblock-spec : {M : Type 1} → statement M
 macroblock-spec =

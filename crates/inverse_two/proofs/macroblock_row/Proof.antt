@@ -5,10 +5,10 @@ use mathlib.Core.Bool.{false}
 use native.Mathlib.Omega.{arith}
 use Rattle.picture.proofs.CheckLaws.{few}
 use Rattle.large_numbers.specs.Small.{Small}
-use Rattle.large_numbers.proofs.Small.{neither, small-none, small-join, small-part}
+use Rattle.large_numbers.proofs.Small.{neither, small-none, small_join, small_part}
 use Rattle.inverse_levels.proofs.Filled.{filled_none}
 use Rattle.inverse_two.specs.Blocks.{BlocksCored}
-use Rattle.inverse_two.proofs.Places.{blocks-all, left-of, free-below}
+use Rattle.inverse_two.proofs.Places.{blocks-all, left-of, free_below}
 use Rattle.inverse_two.proofs.macroblock_row.Statement.{statement}
 use Rattle.inverse_two.proofs.macroblock_row.Tie as tie
 
@@ -49,8 +49,8 @@ loop-again c =
     let i = l.loop.c - 1 in (
       omega (arith, l.loop.invariant.0),
       left-of s.requires.0.0 s.args.high.now y (y + 4) i (i + 1) l.loop.c s.args.width.0 (omega arith) (omega (arith, h.loop-test, l.loop.invariant.0)) (omega (arith, h.loop-test))
-          (free-below s.requires.0.0 y (y + 4) i (i + 1) l.loop.c s.args.width.0 (omega (arith, s.requires.0.2))) l.loop.invariant.1 d.macroblock.ensures.0,
-      neither (λ right here. small-join s.args.high.now (omega (arith, h.loop-test)) here right) l.loop.invariant.2 d.macroblock.ensures.1,
+          (free_below s.requires.0.0 y (y + 4) i (i + 1) l.loop.c s.args.width.0 (omega (arith, s.requires.0.2))) l.loop.invariant.1 d.macroblock.ensures.0,
+      neither (λ right here. small_join s.args.high.now (omega (arith, h.loop-test)) here right) l.loop.invariant.2 d.macroblock.ensures.1,
     )
 
 returns : tie.Need-returns invariant-loop decreases-loop
@@ -58,7 +58,7 @@ returns c =
     let l = c.before.loop in
     let s = c.before.before.before in
     let e : l.c ≡ 0 = omega (arith, c.loop-test) in
-    (blocks-all s.requires.0.0 s.args.high.now (4 * s.args.r) (4 * s.args.r + 4) (rw e at l.invariant.1), λ h. small-part s.args.high.now (l.invariant.2 h) (omega (arith, e)) (omega arith))
+    (blocks-all s.requires.0.0 s.args.high.now (4 * s.args.r) (4 * s.args.r + 4) (rw e at l.invariant.1), λ h. small_part s.args.high.now (l.invariant.2 h) (omega (arith, e)) (omega arith))
 
 pub macroblock-row-spec : {M : Type 1} → statement M
 macroblock-row-spec =

@@ -9,7 +9,7 @@ use native.Mathlib.Decide.{dec_lt}
 use lib.IntN.{ℤ}
 use Rattle.grid.proofs.Rows.{row-above}
 use Rattle.large_numbers.specs.Small.{Small}
-use Rattle.large_numbers.proofs.Small.{neither, small-part}
+use Rattle.large_numbers.proofs.Small.{neither, small_part}
 use Rattle.inverse_levels.proofs.Filled.{filled_none}
 use Rattle.inverse_two.specs.Blocks.{BlocksCored}
 use Rattle.inverse_two.proofs.Places.{blocks-all, above}
@@ -54,7 +54,7 @@ loop-again c =
       omega (arith, v.2, up h),
       omega (arith, v.3, h.loop-test),
       above s.requires.0.0 s.args.high.now y (y + 1) l.loop.y 4 0 s.args.width.0 (omega arith) (omega (arith, v.0, h.loop-test)) (omega (arith, h.loop-test)) v.4 d.block_row.ensures.0,
-      neither (λ below here j c n m o. by_cases (dec_lt j l.loop.y) (λ z. small-part s.args.high.now (here c o) (omega (arith, v.3)) (omega (arith, v.3, z))) (λ z. below j c (omega (arith, z)) m o)) v.5 d.block_row.ensures.1,
+      neither (λ below here j c n m o. by_cases (dec_lt j l.loop.y) (λ z. small_part s.args.high.now (here c o) (omega (arith, v.3)) (omega (arith, v.3, z))) (λ z. below j c (omega (arith, z)) m o)) v.5 d.block_row.ensures.1,
     )
 
 -- four groups of sixty in each macroblock

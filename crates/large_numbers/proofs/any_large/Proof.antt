@@ -1,7 +1,7 @@
 -- All places, from the first on.
 use native.Mathlib.Omega.{arith}
 use borrow.Author.Rules.{rules}
-use Rattle.large_numbers.proofs.Small.{small-part, small-within, fit_row}
+use Rattle.large_numbers.proofs.Small.{small_part, small-within, fit_row}
 use Rattle.large_numbers.proofs.any_large.Statement.{statement}
 use Rattle.large_numbers.proofs.any_large.Tie as tie
 
@@ -9,7 +9,7 @@ returns : tie.Need-returns
 returns c =
     let v = c.before.args.s.now in
     let e = c.some-large.ensures in (
-      λ h. small-within v (small-part v (e.0 h) (omega arith) (omega arith)),
+      λ h. small-within v (small_part v (e.0 h) (omega arith) (omega arith)),
       fit_row v (λ i l r. e.1 i (omega arith) (omega arith)),
     )
 

@@ -3,7 +3,7 @@ use mathlib.Core.Path.{ap, ◌∙◌}
 use mir.Syntax.{w64}
 use mir.ValLaws.{to_z-of_z}
 use Rattle.lifting.specs.Wrap.{wrap}
-use Rattle.lifting.proofs.Bits.{back, wide, cast_fits, to64, near-held, add-near}
+use Rattle.lifting.proofs.Bits.{back, wide, cast_fits, to64, near_held, add-near}
 use Rattle.lifting.proofs.add.Statement.{statement}
 use Rattle.lifting.proofs.add.Tie as tie
 
@@ -11,7 +11,7 @@ add-reduce : tie.Need-overflow-add-reduce
 add-reduce c = simp (wide c.args.a c.ranges.a, wide c.args.b c.ranges.b) (search (to64, add-near))
 
 reduce-requires : tie.Need-reduce-requires
-reduce-requires c κs = simp (wide c.args.a c.ranges.a, wide c.args.b c.ranges.b) (search (near-held, add-near))
+reduce-requires c κs = simp (wide c.args.a c.ranges.a, wide c.args.b c.ranges.b) (search (near_held, add-near))
 
 returns : tie.Need-returns
 returns c =

@@ -36,8 +36,8 @@ cast-result-3 c = rw (to_z-of_z w64 c.before.before.args.s c.before.before.range
 returns : tie.Need-returns
 returns c = rw (to_z-of_z w64 c.before.args.s c.before.ranges.s, to_z-of_z w64 _ (widen (high-at c).small), to_z-of_z w32 _ (high-at c).small) (sym (high-at c).same)
 
-returns-2 : tie.Need-returns-2
-returns-2 c = rw (to_z-of_z w64 c.before.before.args.s c.before.before.ranges.s, to_z-of_z w64 _ (widen (low-at c).small), to_z-of_z w32 _ (low-at c).small) (sym (low-at c).same)
+returns_2 : tie.Need-returns-2
+returns_2 c = rw (to_z-of_z w64 c.before.before.args.s c.before.before.ranges.s, to_z-of_z w64 _ (widen (low-at c).small), to_z-of_z w32 _ (low-at c).small) (sym (low-at c).same)
 
 returns-3 : tie.Need-returns-3
 returns-3 c = rw (to_z-of_z w64 c.before.before.args.s c.before.before.ranges.s, to_z-of_z w32 _ (mid_at c).small) (sym (mid_at c).same)
@@ -45,4 +45,4 @@ returns-3 c = rw (to_z-of_z w64 c.before.before.args.s c.before.before.ranges.s,
 pub reduce-spec : {M : Type 1} → statement M
 reduce-spec =
     tie.close
-    (tie.spec sub-result cast-result add-result cast-result-2 cast-result-3 returns returns-2 returns-3)
+    (tie.spec sub-result cast-result add-result cast-result-2 cast-result-3 returns returns_2 returns-3)

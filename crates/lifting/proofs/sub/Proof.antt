@@ -3,7 +3,7 @@ use mathlib.Core.Path.{ap, ◌∙◌}
 use mir.Syntax.{w64}
 use mir.ValLaws.{to_z-of_z}
 use Rattle.lifting.specs.Wrap.{wrap}
-use Rattle.lifting.proofs.Bits.{back, wide, cast_fits, to64, near-held, sub-near}
+use Rattle.lifting.proofs.Bits.{back, wide, cast_fits, to64, near_held, sub-near}
 use Rattle.lifting.proofs.sub.Statement.{statement}
 use Rattle.lifting.proofs.sub.Tie as tie
 
@@ -11,7 +11,7 @@ sub-reduce : tie.Need-overflow-sub-reduce
 sub-reduce c = simp (wide c.args.a c.ranges.a, wide c.args.b c.ranges.b) (search (to64, sub-near))
 
 reduce-requires : tie.Need-reduce-requires
-reduce-requires c κs = simp (wide c.args.a c.ranges.a, wide c.args.b c.ranges.b) (search (near-held, sub-near))
+reduce-requires c κs = simp (wide c.args.a c.ranges.a, wide c.args.b c.ranges.b) (search (near_held, sub-near))
 
 returns : tie.Need-returns
 returns c =

@@ -2,14 +2,14 @@
 use mathlib.Core.Path.{ap}
 use borrow.Author.Rules.{rules}
 use Rattle.lifting.proofs.Traces.{number, shifted, scaled, difference, plus, minus, taken, swapped, ◌⇒◌, at-end, ran}
-use Rattle.figures.specs.Figures.{postHadamard}
+use Rattle.figures.specs.Figures.{post_hadamard}
 use Rattle.figures.specs.Block.{list}
 use Rattle.figures.proofs.Parts.{told}
 use Rattle.overlap_operators.proofs.post_hadamard_told.Statement.{statement}
 use Rattle.overlap_operators.proofs.post_hadamard_told.Tie as tie
 
 returns : tie.Need-returns
-unfolding postHadamard
+unfolding post_hadamard
 returns c35 =
     let c23 = c35.before.before.before.before.before.before.before.before.before.before.before.before in
     let c20 = c23.before.before.before in
@@ -24,7 +24,7 @@ returns c35 =
     let t4 = c5.before in
     let e = t4.before.before.before.before in
     let v = ap list (told e.args.v t4.struct-told4.given) in
-    ran e.args.tell postHadamard _ v
+    ran e.args.tell post_hadamard _ v
     (minus number c5.sub_told.ensures
     ⇒ plus (scaled number c6.scaled-told.ensures) c8.add-told.ensures
     ⇒ minus (shifted number c10.shift.type-inv c10.shift.ensures) c11.sub-told2.ensures

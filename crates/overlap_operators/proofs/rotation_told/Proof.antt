@@ -1,6 +1,6 @@
 -- The lines of Figure 4.9 in turn, each by what its calls ensure.
 use borrow.Author.Rules.{rules}
-use Rattle.lifting.proofs.Traces.{number, rounded, plus, minus, ◌⇒◌, at-end, ran, two-read}
+use Rattle.lifting.proofs.Traces.{number, rounded, plus, minus, ◌⇒◌, at-end, ran, two_read}
 use Rattle.figures.specs.Figures.{rotation}
 use Rattle.overlap_operators.proofs.rotation_told.Statement.{statement}
 use Rattle.overlap_operators.proofs.rotation_told.Tie as tie
@@ -13,7 +13,7 @@ returns c13 =
     let c3 = c5.before.before in
     let c1 = c3.before.before in
     let e = c1.before in
-    ran e.args.tell rotation _ (two-read e.ranges.a e.ranges.b)
+    ran e.args.tell rotation _ (two_read e.ranges.a e.ranges.b)
     (minus (rounded number c1.rounded-told.ensures) c3.sub_told.ensures
     ⇒ plus (rounded number c5.rounded-told2.ensures) c7.add-told.ensures
     ⇒ at-end)

@@ -1,6 +1,6 @@
 -- The lines of Figure 4.10 in turn, each by what its calls ensure.
 use borrow.Author.Rules.{rules}
-use Rattle.lifting.proofs.Traces.{number, shifted, scaled, plus, taken, ◌⇒◌, at-end, ran, two-read}
+use Rattle.lifting.proofs.Traces.{number, shifted, scaled, plus, taken, ◌⇒◌, at-end, ran, two_read}
 use Rattle.figures.specs.Figures.{scale}
 use Rattle.overlap_operators.proofs.scale_told.Statement.{statement}
 use Rattle.overlap_operators.proofs.scale_told.Tie as tie
@@ -16,7 +16,7 @@ returns c22 =
     let c3 = c4.before in
     let c1 = c3.before.before in
     let e = c1.before in
-    ran e.args.tell scale _ (two-read e.ranges.a e.ranges.b)
+    ran e.args.tell scale _ (two_read e.ranges.a e.ranges.b)
     (plus number c1.add-told.ensures
     ⇒ taken (shifted number c3.shift.type-inv c3.shift.ensures) c4.sub_told.ensures
     ⇒ plus (scaled number c6.scaled-told.ensures) c9.add-told2.ensures

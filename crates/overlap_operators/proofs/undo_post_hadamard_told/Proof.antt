@@ -2,15 +2,15 @@
 use mathlib.Core.Path.{ap}
 use borrow.Author.Rules.{rules}
 use Rattle.lifting.specs.Program.{back}
-use Rattle.lifting.proofs.Traces.{number, shifted, scaled, difference, plus, minus, taken, swapped, ◌⇐◌, at-start, undone}
-use Rattle.figures.specs.Figures.{postHadamard}
+use Rattle.lifting.proofs.Traces.{number, shifted, scaled, difference, plus, minus, taken, swapped, ◌⇐◌, at_start, undone}
+use Rattle.figures.specs.Figures.{post_hadamard}
 use Rattle.figures.specs.Block.{list}
 use Rattle.figures.proofs.Parts.{told}
 use Rattle.overlap_operators.proofs.undo_post_hadamard_told.Statement.{statement}
 use Rattle.overlap_operators.proofs.undo_post_hadamard_told.Tie as tie
 
 returns : tie.Need-returns
-unfolding back postHadamard
+unfolding back post_hadamard
 returns c35 =
     let c23 = c35.before.before.before.before.before.before.before.before.before.before.before.before in
     let c20 = c23.before.before.before in
@@ -25,8 +25,8 @@ returns c35 =
     let t4 = c5.before in
     let e = t4.before.before.before.before in
     let v = ap list (told e.args.v t4.struct-told4.given) in
-    undone e.args.tell postHadamard _ v
-    (at-start
+    undone e.args.tell post_hadamard _ v
+    (at_start
     ⇐ minus number c5.sub_told.ensures
     ⇐ plus number c6.add-told.ensures
     ⇐ swapped

@@ -1,7 +1,7 @@
 -- The two numbers of the told operator.
 use mathlib.Core.Path.{◌∙◌, ap}
 use Rattle.lifting.specs.Program.{undo}
-use Rattle.lifting.proofs.Traces.{two-read}
+use Rattle.lifting.proofs.Traces.{two_read}
 use Rattle.figures.specs.Figures.{rotation}
 use Rattle.overlap_operators.proofs.undo_rotation.Statement.{statement}
 use Rattle.overlap_operators.proofs.undo_rotation.Tie as tie
@@ -9,7 +9,7 @@ use Rattle.overlap_operators.proofs.undo_rotation.Tie as tie
 returns : tie.Need-returns
 returns c2 =
     let c1 = c2.before in
-    c1.undo-rotation-told.ensures.0 ∙ ap (undo rotation) (two-read c1.before.ranges.a c1.before.ranges.b)
+    c1.undo-rotation-told.ensures.0 ∙ ap (undo rotation) (two_read c1.before.ranges.a c1.before.ranges.b)
 
 pub undo-rotation-spec : {M : Type 1} → statement M
 undo-rotation-spec = tie.close (tie.spec (λ c κs. tt) returns)

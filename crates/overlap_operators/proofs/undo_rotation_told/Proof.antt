@@ -1,7 +1,7 @@
 -- The lines of Figure 4.9 from the last to the first, each by what its calls ensure.
 use borrow.Author.Rules.{rules}
 use Rattle.lifting.specs.Program.{back}
-use Rattle.lifting.proofs.Traces.{number, rounded, plus, minus, ◌⇐◌, at-start, undone, two-read}
+use Rattle.lifting.proofs.Traces.{number, rounded, plus, minus, ◌⇐◌, at_start, undone, two_read}
 use Rattle.figures.specs.Figures.{rotation}
 use Rattle.overlap_operators.proofs.undo_rotation_told.Statement.{statement}
 use Rattle.overlap_operators.proofs.undo_rotation_told.Tie as tie
@@ -14,8 +14,8 @@ returns c13 =
     let c3 = c5.before.before in
     let c1 = c3.before.before in
     let e = c1.before in
-    undone e.args.tell rotation _ (two-read e.ranges.a e.ranges.b)
-    (at-start
+    undone e.args.tell rotation _ (two_read e.ranges.a e.ranges.b)
+    (at_start
     ⇐ minus (rounded number c1.rounded-told.ensures) c3.sub_told.ensures
     ⇐ plus (rounded number c5.rounded-told2.ensures) c7.add-told.ensures)
 

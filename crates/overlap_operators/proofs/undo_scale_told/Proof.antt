@@ -1,7 +1,7 @@
 -- The lines of Figure 4.10 from the last to the first, each by what its calls ensure.
 use borrow.Author.Rules.{rules}
 use Rattle.lifting.specs.Program.{back}
-use Rattle.lifting.proofs.Traces.{number, shifted, scaled, minus, taken, ◌⇐◌, at-start, undone, two-read}
+use Rattle.lifting.proofs.Traces.{number, shifted, scaled, minus, taken, ◌⇐◌, at_start, undone, two_read}
 use Rattle.figures.specs.Figures.{scale}
 use Rattle.overlap_operators.proofs.undo_scale_told.Statement.{statement}
 use Rattle.overlap_operators.proofs.undo_scale_told.Tie as tie
@@ -17,8 +17,8 @@ returns c22 =
     let c3 = c5.before.before in
     let c1 = c3.before.before in
     let e = c1.before in
-    undone e.args.tell scale _ (two-read e.ranges.a e.ranges.b)
-    (at-start
+    undone e.args.tell scale _ (two_read e.ranges.a e.ranges.b)
+    (at_start
     ⇐ minus (scaled number c1.scaled-told.ensures) c3.sub_told.ensures
     ⇐ minus (scaled number c5.scaled-told2.ensures) c7.sub-told2.ensures
     ⇐ taken (shifted number c9.shift.type-inv c9.shift.ensures) c11.sub-told3.ensures

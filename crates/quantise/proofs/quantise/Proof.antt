@@ -5,9 +5,9 @@ use mathlib.Core.List.{List}
 use borrow.Author.Rules.{rules}
 use Rattle.picture.specs.Sizes.{macroblocks}
 use Rattle.picture.specs.Planes.{Planes, planes}
-use Rattle.picture.proofs.CheckLaws.{answers, refused-call, ready-number, ready-sized}
-use Rattle.quantise.specs.Quantise.{quantisedPlanes, quantiseNumber}
-use Rattle.bands.specs.Numbers.{bandChecks}
+use Rattle.picture.proofs.CheckLaws.{answers, refused_call, ready-number, ready-sized}
+use Rattle.quantise.specs.Quantise.{quantised_planes, quantise_number}
+use Rattle.bands.specs.Numbers.{band_checks}
 use Rattle.quantise.proofs.quantise.Statement.{statement}
 use Rattle.quantise.proofs.quantise.Tie as tie
 
@@ -19,7 +19,7 @@ was s = planes s.args.dc-levels.now s.args.low-levels.now s.args.high-levels.now
 
 -- the checks after those of mode and size
 abbrev rest : tie.Start → List ℕ
-rest s = bandChecks (macroblocks s.args.size) s.args.steps (read s) (was s)
+rest s = band_checks (macroblocks s.args.size) s.args.steps (read s) (was s)
 
 quantise-sized-requires : tie.Need-quantise-sized-requires
 quantise-sized-requires c κs =
@@ -29,16 +29,16 @@ quantise-sized-requires c κs =
     ready-sized s.args.mode s.args.size (rest s) (sym k.enum_told.given.1 ∙ answers n.before.args.mode n.check-shape.ensures)
 
 returns : tie.Need-returns
-unfolding quantiseNumber
+unfolding quantise_number
 returns c =
     let k = c.before in
     let n = k.before.before in
     let s = n.before in
-    refused-call s.args.mode s.args.size (rest s) (quantisedPlanes s.args.steps (read s)) (was s) (sym k.number.given.1 ∙ answers n.before.args.mode n.check-shape.ensures)
+    refused_call s.args.mode s.args.size (rest s) (quantised_planes s.args.steps (read s)) (was s) (sym k.number.given.1 ∙ answers n.before.args.mode n.check-shape.ensures)
 
-returns-2 : tie.Need-returns-2
-unfolding quantiseNumber
-returns-2 c =
+returns_2 : tie.Need-returns-2
+unfolding quantise_number
+returns_2 c =
     let d = c.before.before.before in
     let k = d.before.before.before.before in
     let n = k.before.before in
@@ -48,4 +48,4 @@ returns-2 c =
 pub quantise-spec : {M : Type 1} → statement M
 quantise-spec =
     tie.close
-    (tie.spec (λ c κs. search rules) (λ c. search rules) (λ c. search rules) quantise-sized-requires returns (λ c. search rules) (λ c. search rules) (λ c. search rules) returns-2)
+    (tie.spec (λ c κs. search rules) (λ c. search rules) (λ c. search rules) quantise-sized-requires returns (λ c. search rules) (λ c. search rules) (λ c. search rules) returns_2)

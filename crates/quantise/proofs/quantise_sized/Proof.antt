@@ -7,8 +7,8 @@ use Rattle.picture.specs.Planes.{Planes, planes}
 use Rattle.picture.specs.Numbers.{first_of}
 use Rattle.picture.proofs.NumberLaws.{settled-refused}
 use Rattle.picture.proofs.CheckLaws.{counted}
-use Rattle.bands.specs.Numbers.{bandChecks}
-use Rattle.bands.proofs.Bands.{bands-indexed, bands-alike}
+use Rattle.bands.specs.Numbers.{band_checks}
+use Rattle.bands.proofs.Bands.{bands_indexed, bands_alike}
 use Rattle.quantise.proofs.quantise_sized.Statement.{statement}
 use Rattle.quantise.proofs.quantise_sized.Tie as tie
 
@@ -19,11 +19,11 @@ abbrev was : tie.Start → Planes
 was s = planes s.args.dc-levels.now s.args.low-levels.now s.args.high-levels.now
 
 number : (c : tie.After-check-bands) → let s = c.before.before.before.before.before in
-    c.check-bands.result ≡ first_of (bandChecks (macroblocks s.args.size) s.args.steps (read s) (was s))
+    c.check-bands.result ≡ first_of (band_checks (macroblocks s.args.size) s.args.steps (read s) (was s))
 number c =
     let m = c.before.before.before.before in
     let s = m.before in
-    counted (λ (n : ℕ). bandChecks n s.args.steps (read s) (was s)) c.check-bands.ensures m.macroblocks.ensures.0
+    counted (λ (n : ℕ). band_checks n s.args.steps (read s) (was s)) c.check-bands.ensures m.macroblocks.ensures.0
 
 returns : tie.Need-returns
 returns c = (number c.before, sym (settled-refused _ _ _ c.if1.true))
@@ -35,10 +35,10 @@ quantise-planes-requires c κs =
     let s = k.before.before.before.before.before in
     let z = sym (number k) ∙ e.if1.false in
     let n = macroblocks s.args.size in
-    (bands-indexed n s.args.steps (read s) (was s) z, bands-alike n s.args.steps (read s) (was s) z)
+    (bands_indexed n s.args.steps (read s) (was s) z, bands_alike n s.args.steps (read s) (was s) z)
 
-returns-2 : tie.Need-returns-2
-returns-2 c =
+returns_2 : tie.Need-returns-2
+returns_2 c =
     let d = c.before.before.before in
     let e = d.before.before.before.before in
     (sym e.if1.false ∙ number e.before, d.quantise-planes.ensures)
@@ -47,4 +47,4 @@ pub quantise-sized-spec : {M : Type 1} → statement M
 quantise-sized-spec =
     tie.close
     (tie.spec (λ c κs. search rules) (λ c κs. search rules) (λ c. search rules) (λ c. search rules) (λ c. search rules) returns quantise-planes-requires
-    (λ c. search rules) (λ c. search rules) (λ c. search rules) returns-2)
+    (λ c. search rules) (λ c. search rules) (λ c. search rules) returns_2)

@@ -5,8 +5,8 @@ use mathlib.Core.List.{List}
 use borrow.Author.Rules.{rules}
 use Rattle.picture.specs.Sizes.{macroblocks}
 use Rattle.picture.specs.Planes.{Planes, planes}
-use Rattle.picture.proofs.CheckLaws.{answers, refused-call, ready-number, ready-sized}
-use Rattle.restore.specs.Restore.{restoredPlanes, restoreChecks, restoreNumber}
+use Rattle.picture.proofs.CheckLaws.{answers, refused_call, ready-number, ready-sized}
+use Rattle.restore.specs.Restore.{restored_planes, restore_checks, restore_number}
 use Rattle.restore.proofs.restore.Statement.{statement}
 use Rattle.restore.proofs.restore.Tie as tie
 
@@ -18,7 +18,7 @@ was s = planes s.args.dc.now s.args.low.now s.args.high.now
 
 -- the checks after those of mode and size
 abbrev rest : tie.Start → List ℕ
-rest s = restoreChecks (macroblocks s.args.size) s.args.steps (read s) (was s)
+rest s = restore_checks (macroblocks s.args.size) s.args.steps (read s) (was s)
 
 restore-sized-requires : tie.Need-restore-sized-requires
 restore-sized-requires c κs =
@@ -28,16 +28,16 @@ restore-sized-requires c κs =
     ready-sized s.args.mode s.args.size (rest s) (sym k.enum_told.given.1 ∙ answers n.before.args.mode n.check-shape.ensures)
 
 returns : tie.Need-returns
-unfolding restoreNumber
+unfolding restore_number
 returns c =
     let k = c.before in
     let n = k.before.before in
     let s = n.before in
-    refused-call s.args.mode s.args.size (rest s) (restoredPlanes s.args.steps (read s)) (was s) (sym k.number.given.1 ∙ answers n.before.args.mode n.check-shape.ensures)
+    refused_call s.args.mode s.args.size (rest s) (restored_planes s.args.steps (read s)) (was s) (sym k.number.given.1 ∙ answers n.before.args.mode n.check-shape.ensures)
 
-returns-2 : tie.Need-returns-2
-unfolding restoreNumber
-returns-2 c =
+returns_2 : tie.Need-returns-2
+unfolding restore_number
+returns_2 c =
     let d = c.before.before.before in
     let k = d.before.before.before.before in
     let n = k.before.before in
@@ -47,4 +47,4 @@ returns-2 c =
 pub restore-spec : {M : Type 1} → statement M
 restore-spec =
     tie.close
-    (tie.spec (λ c κs. search rules) (λ c. search rules) (λ c. search rules) restore-sized-requires returns (λ c. search rules) (λ c. search rules) (λ c. search rules) returns-2)
+    (tie.spec (λ c κs. search rules) (λ c. search rules) (λ c. search rules) restore-sized-requires returns (λ c. search rules) (λ c. search rules) (λ c. search rules) returns_2)

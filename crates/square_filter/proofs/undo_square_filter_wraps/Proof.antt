@@ -1,9 +1,9 @@
 -- What the three stages undone tell, each on what the stage after it left.
 use mathlib.Core.Path.{◌∙◌, ap}
 use Rattle.lifting.specs.Program.{undo}
-use Rattle.lifting.specs.Wraps.{undoWraps}
-use Rattle.figures.specs.Pieces.{crossedStage}
-use Rattle.square_filter.proofs.Stages.{mirrored-undo, first, last, undo-stages-wrap}
+use Rattle.lifting.specs.Wraps.{undo_wraps}
+use Rattle.figures.specs.Pieces.{crossed_stage}
+use Rattle.square_filter.proofs.Stages.{mirrored-undo, first, last, undo_stages_wrap}
 use Rattle.square_filter.proofs.undo_square_filter_wraps.Statement.{statement}
 use Rattle.square_filter.proofs.undo_square_filter_wraps.Tie as tie
 
@@ -16,8 +16,8 @@ returns c7 =
     let three = mirrored-undo _ _ _ _ c2.undo-post-hadamards-told.ensures.0 in
     let one = mirrored-undo _ _ _ _ c4.hadamards-told.ensures.1.0 in
     let left = three.0 ∙ ap (undo last) c1.split.ensures in
-    rw (c2.undo-post-hadamards-told.ensures.1 ∙ three.1 ∙ ap (undoWraps last) c1.split.ensures, c3.undo-crossed-told.ensures.1 ∙ ap (undoWraps crossedStage) left, c4.hadamards-told.ensures.1.1.1 ∙ one.1 ∙ ap (undoWraps first) (c3.undo-crossed-told.ensures.0 ∙ ap (undo crossedStage) left))
-    (undo-stages-wrap _)
+    rw (c2.undo-post-hadamards-told.ensures.1 ∙ three.1 ∙ ap (undo_wraps last) c1.split.ensures, c3.undo-crossed-told.ensures.1 ∙ ap (undo_wraps crossed_stage) left, c4.hadamards-told.ensures.1.1.1 ∙ one.1 ∙ ap (undo_wraps first) (c3.undo-crossed-told.ensures.0 ∙ ap (undo crossed_stage) left))
+    (undo_stages_wrap _)
 
 pub undo-square-filter-wraps-spec : {M : Type 1} → statement M
 undo-square-filter-wraps-spec = tie.close (tie.spec (λ c κs. tt) (λ c κs. tt) (λ c κs. tt) (λ c κs. tt) returns)

@@ -44,8 +44,8 @@ all-near-requires c κs =
     let s = start (rounded m) in
     (m.macroblocks.ensures.1, (s.pre.1.1.0 ∙ count m, (inverted m).inverse-samples.auto.1.1.1.1.1.0 ∙ s.pre.1.1.1.1 ∙ count m))
 
-returns-2 : tie.Need-returns-2
-returns-2 c =
+returns_2 : tie.Need-returns-2
+returns_2 c =
     let m = c.before.before in
     let i = inverted m in
     let r = rounded m in
@@ -59,4 +59,4 @@ pub try-index-spec : {M : Type 1} → statement M
 try-index-spec =
     tie.close
     (tie.spec (λ c κs. search rules) (λ c κs. search rules) (λ c. search rules) (λ c. search rules) (λ c. search rules) returns (λ c κs. search rules) (λ c κs. search rules) all-near-requires
-    (λ c. search rules) (λ c. search rules) (λ c. search rules) (λ c. search rules) returns-2)
+    (λ c. search rules) (λ c. search rules) (λ c. search rules) (λ c. search rules) returns_2)

@@ -8,21 +8,21 @@ use borrow.Author.Rules.{rules}
 use Rattle.lifting.specs.Program.{at}
 use Rattle.lifting.proofs.Bits.{back}
 use Rattle.step_sizes.specs.Steps.{step_of}
-use Rattle.step_sizes.proofs.Reciprocal.{every-step-works}
+use Rattle.step_sizes.proofs.Reciprocal.{every_step_works}
 use Rattle.step_sizes.specs.Levels.{restored}
-use Rattle.bands.specs.Bands.{anyOut}
-use Rattle.bands.proofs.Range.{one-looked, all-looked}
+use Rattle.bands.specs.Bands.{any_out}
+use Rattle.bands.proofs.Range.{one_looked, all_looked}
 use Rattle.bands.proofs.plane.any_leaves_range.Statement.{statement}
 use Rattle.bands.proofs.plane.any_leaves_range.Tie as tie
 
 abbrev invariant-loop : tie.invariant-loop
-invariant-loop index levels limits out₀ i₀ i-end out i = (i ≤ length levels) × (out ≡ anyOut (map (restored (step_of index)) (take i levels)))
+invariant-loop index levels limits out₀ i₀ i-end out i = (i ≤ length levels) × (out ≡ any_out (map (restored (step_of index)) (take i levels)))
 
 abbrev decreases-loop : tie.decreases-loop
 decreases-loop index levels limits out₀ i₀ i-end out i = i-end - i
 
 limits-of-requires : tie.Need-limits-of-requires invariant-loop decreases-loop
-limits-of-requires c κs = rw c.step.ensures (every-step-works c.before.args.index c.before.requires).positive
+limits-of-requires c κs = rw c.step.ensures (every_step_works c.before.args.index c.before.requires).positive
 
 loop-again : tie.Need-loop-preserved invariant-loop decreases-loop
 loop-again c =
@@ -31,13 +31,13 @@ loop-again c =
     let a = d.before.before.args in
     let x = at a.levels.now l.loop.i in
     let found = (rw (back {x = x} c.before.outside-arg.given) at c.outside.ensures) ∙ (rw d.before.step.ensures at (d.Limits-of.ensures.outside x)) in
-    (omega arith, one-looked (restored (step_of a.index)) a.levels.now l.loop.i (omega arith) l.loop.invariant.1 found)
+    (omega arith, one_looked (restored (step_of a.index)) a.levels.now l.loop.i (omega arith) l.loop.invariant.1 found)
 
 returns : tie.Need-returns invariant-loop decreases-loop
 returns c =
     let l = c.before in
     let a = l.before.before.before.args in
-    all-looked (restored (step_of a.index)) a.levels.now l.loop.i (omega arith) l.loop.invariant.1
+    all_looked (restored (step_of a.index)) a.levels.now l.loop.i (omega arith) l.loop.invariant.1
 
 pub any-leaves-range-spec : {M : Type 1} → statement M
 any-leaves-range-spec =

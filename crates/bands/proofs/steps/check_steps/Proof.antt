@@ -7,8 +7,8 @@ use Rattle.bands.proofs.steps.check_steps.Tie as tie
 returns : tie.Need-returns
 returns c = let s = c.before.before.args.steps in simp (lt-ltb 255 s.dc (omega (arith, c.if1.true)))
 
-returns-2 : tie.Need-returns-2
-returns-2 c =
+returns_2 : tie.Need-returns-2
+returns_2 c =
     let e = c.before.before in
     let s = e.before.before.args.steps in
     simp (le-ltb 255 s.dc e.if1.false, lt-ltb 255 s.low (omega (arith, c.if2.true)))
@@ -28,4 +28,4 @@ returns-4 c =
     simp (le-ltb 255 s.dc d.if1.false, le-ltb 255 s.low e.if2.false, le-ltb 255 s.high c.if3.false)
 
 pub check-steps-spec : {M : Type 1} → statement M
-check-steps-spec = tie.close (tie.spec returns returns-2 returns-3 returns-4)
+check-steps-spec = tie.close (tie.spec returns returns_2 returns-3 returns-4)

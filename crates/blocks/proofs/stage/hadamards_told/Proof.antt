@@ -1,5 +1,5 @@
 -- Each four by what its call ensures and tells.
-use Rattle.blocks.proofs.Blocks.{ask-four}
+use Rattle.blocks.proofs.Blocks.{ask_four}
 use Rattle.blocks.proofs.stage.hadamards_told.Statement.{statement}
 use Rattle.blocks.proofs.stage.hadamards_told.Tie as tie
 
@@ -18,8 +18,8 @@ returns c12 =
       (
         record { p = p.1.0; q = q.1.0; r = r.1.0; s = s.1.0 },
         (
-          ask-four t _ _ _ _ p.1.1.0 q.1.1.0 r.1.1.0 s.1.1.0,
-          ask-four t _ _ _ _ p.1.1.1 q.1.1.1 r.1.1.1 s.1.1.1,
+          ask_four t _ _ _ _ p.1.1.0 q.1.1.0 r.1.1.0 s.1.1.0,
+          ask_four t _ _ _ _ p.1.1.1 q.1.1.1 r.1.1.1 s.1.1.1,
         ),
       ),
     )

@@ -2,9 +2,9 @@
 use mathlib.Core.Path.{◌∙◌}
 use borrow.Author.Rules.{rules}
 use Rattle.clients.specs.Faults.{FindFaults}
-use Rattle.clients.proofs.Numbers.{find-faults}
+use Rattle.clients.proofs.Numbers.{find_faults}
 use Rattle.clients.proofs.FaultLaws.{by_number, taken}
-use Rattle.clients.proofs.Found.{kept, which, none_passes, refused-index, restored-planes, tried-samples}
+use Rattle.clients.proofs.Found.{kept, which, none_passes, refused_index, restored-planes, tried_samples_lem}
 use Rattle.clients.proofs.steps.client_find_step.Statement.{statement}
 use Rattle.clients.proofs.steps.client_find_step.Tie as tie
 
@@ -17,18 +17,18 @@ returns c =
     let e = f.lapped-find-step.ensures in
     let p = taken e.1.1.0 in
     let s = taken e.1.1.1 in (
-      by_number (FindFaults _ _ _ _ _) e.0 (find-faults _ _ _ _ _),
+      by_number (FindFaults _ _ _ _ _) e.0 (find_faults _ _ _ _ _),
       (
         λ z. p.done z ∙ restored-planes a.mode a.size a.samples.now found.index,
         (
-          λ z. tried-samples a.mode a.size a.samples.now found.index (s.done z) (p.done z),
+          λ z. tried_samples_lem a.mode a.size a.samples.now found.index (s.done z) (p.done z),
           (
             λ z. which found.number _ found.index e.1.0 z,
             (
               λ z. none_passes found.number _ found.index e.1.0 z,
               (
-                λ n. (refused-index found.number _ found.index e.1.0 n, s.refused n, p.refused n),
-                λ z. kept _ _ _ _ _ _ found.index r.in-range.ensures e.0 e.1.0 e.1.1.1 z,
+                λ n. (refused_index found.number _ found.index e.1.0 n, s.refused n, p.refused n),
+                λ z. kept _ _ _ _ _ _ found.index r.in_range.ensures e.0 e.1.0 e.1.1.1 z,
               ),
             ),
           ),

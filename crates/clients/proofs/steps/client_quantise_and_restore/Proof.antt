@@ -9,8 +9,8 @@ returns c =
     let q = c.before.before.before.before in
     (λ right indices room again. absurd (c.if1.true (quantises _ _ _ _ _ right indices room again q.lapped-quantise.ensures.0)), λ indices z. absurd (c.if1.true z))
 
-returns-2 : tie.Need-returns-2
-returns-2 c =
+returns_2 : tie.Need-returns-2
+returns_2 c =
     let r = c.before.before.before in
     let d = r.before.before.before.before.before.before.before in
     let q = d.before.before.before.before in
@@ -24,4 +24,4 @@ pub client-quantise-and-restore-spec : {M : Type 1} → statement M
 client-quantise-and-restore-spec =
     tie.close
     (tie.spec (λ c κs. search rules) (λ c. search rules) (λ c. search rules) (λ c. search rules) (λ c. search rules) (λ c. search rules) (λ c. search rules) returns
-    (λ c κs. search rules) (λ c. search rules) (λ c. search rules) (λ c. search rules) (λ c. search rules) (λ c. search rules) (λ c. search rules) returns-2)
+    (λ c κs. search rules) (λ c. search rules) (λ c. search rules) (λ c. search rules) (λ c. search rules) (λ c. search rules) (λ c. search rules) returns_2)

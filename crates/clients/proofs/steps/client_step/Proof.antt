@@ -3,7 +3,7 @@ use mathlib.Core.Path.{◌∙◌, ap}
 use native.Mathlib.Omega.{arith}
 use borrow.Author.Rules.{rules}
 use borrow.Author.Tests.{lt-ltb, le-ltb}
-use Rattle.step_sizes.specs.Steps.{step_of, stepAnswer}
+use Rattle.step_sizes.specs.Steps.{step_of, step_answer}
 use Rattle.clients.proofs.steps.client_step.Statement.{statement}
 use Rattle.clients.proofs.steps.client_step.Tie as tie
 
@@ -12,7 +12,7 @@ unfolding step_of
 returns c =
     let e = c.lapped-step.ensures in
     let i = c.before.args.index in (
-      λ z. e ∙ ap stepAnswer z,
+      λ z. e ∙ ap step_answer z,
       (
         λ a b. e ∙ simp (le-ltb 255 i (omega (arith, b)), le-ltb i 1 a, lt-ltb i 16 (omega (arith, b))),
         (

@@ -4,11 +4,11 @@ use mir.Syntax.{w32}
 use mir.ValLaws.{to_z-of_z}
 use borrow.Author.Rules.{rules}
 use Rattle.lifting.specs.Program.{back}
-use Rattle.lifting.proofs.Traces.{number, rounded, difference, plus, minus, taken, swapped, ◌⇒◌, at-end, ran, ◌⇐◌, at-start, undone}
+use Rattle.lifting.proofs.Traces.{number, rounded, difference, plus, minus, taken, swapped, ◌⇒◌, at-end, ran, ◌⇐◌, at_start, undone}
 use Rattle.figures.specs.Figures.{hadamard}
 use Rattle.figures.specs.Block.{list}
 use Rattle.figures.proofs.Parts.{told}
-use Rattle.core_operators.proofs.Ors.{in_order, from-the-last}
+use Rattle.core_operators.proofs.Ors.{in_order, from_the_last}
 use Rattle.core_operators.proofs.transform.hadamard_told.Statement.{statement}
 use Rattle.core_operators.proofs.transform.hadamard_told.Tie as tie
 
@@ -38,7 +38,7 @@ returns c33 =
     ⇒ at-end)) in
     let undo = rw (to_z-of_z w32 _ e.ranges.r) at
     (undone e.args.tell (hadamard _) _ v
-    (at-start
+    (at_start
     ⇐ minus number c6.sub_told.ensures
     ⇐ plus number c5.add-told.ensures
     ⇐ taken (rounded (difference number number c9.sub-told2.ensures) c11.rounded-told.ensures) c13.sub-told3.ensures
@@ -54,7 +54,7 @@ returns c33 =
     let w6 = c15.sub-told4.result.wrapped in
     let w7 = c18.sub-told5.result.wrapped in
     let w8 = c21.add-told2.result.wrapped in
-    (run.0, (undo.0, (in_order w1 w2 w3 w4 w5 w6 w7 w8 ∙ run.1, from-the-last w1 w2 w3 w4 w5 w6 w7 w8 ∙ undo.1)))
+    (run.0, (undo.0, (in_order w1 w2 w3 w4 w5 w6 w7 w8 ∙ run.1, from_the_last w1 w2 w3 w4 w5 w6 w7 w8 ∙ undo.1)))
 
 pub hadamard-told-spec : {M : Type 1} → statement M
 hadamard-told-spec = tie.close (tie.spec (λ c κs. tt) (λ c κs. tt) (λ c κs. tt) (λ c κs. search rules) (λ c κs. tt) (λ c κs. tt) (λ c κs. tt) (λ c κs. tt) returns)

@@ -4,14 +4,14 @@ use mir.Syntax.{w32}
 use mir.ValLaws.{to_z-of_z}
 use borrow.Author.Rules.{rules}
 use Rattle.lifting.proofs.Traces.{number, shifted, scaled, plus, minus, ◌⇒◌, at-end, ran}
-use Rattle.figures.specs.Pieces.{oddOddRounded}
+use Rattle.figures.specs.Pieces.{odd_odd_rounded}
 use Rattle.figures.specs.Block.{list}
 use Rattle.figures.proofs.Parts.{told}
 use Rattle.core_operators.proofs.transform.odd_odd_rounded_told.Statement.{statement}
 use Rattle.core_operators.proofs.transform.odd_odd_rounded_told.Tie as tie
 
 returns : tie.Need-returns
-unfolding oddOddRounded
+unfolding odd_odd_rounded
 returns c55 =
     let c37 = c55.before.before.before.before.before.before.before.before.before.before.before.before.before.before.before.before.before.before in
     let c34 = c37.before.before.before in
@@ -33,7 +33,7 @@ returns c55 =
     let e = t4.before.before.before.before in
     let v = ap list (told e.args.v t4.struct-told4.given) in
     rw (to_z-of_z w32 _ e.ranges.k, to_z-of_z w32 _ e.ranges.l) at
-    (ran e.args.tell (oddOddRounded _ _) _ v
+    (ran e.args.tell (odd_odd_rounded _ _) _ v
     (plus number c5.add-told.ensures
     ⇒ minus number c6.sub_told.ensures
     ⇒ minus (shifted number c8.shift.type-inv c8.shift.ensures) c11.sub-told2.ensures

@@ -4,15 +4,15 @@ use mir.Syntax.{w32}
 use mir.ValLaws.{to_z-of_z}
 use borrow.Author.Rules.{rules}
 use Rattle.lifting.specs.Program.{back}
-use Rattle.lifting.proofs.Traces.{number, shifted, scaled, plus, minus, ◌⇐◌, at-start, undone}
-use Rattle.figures.specs.Pieces.{oddOddRounded}
+use Rattle.lifting.proofs.Traces.{number, shifted, scaled, plus, minus, ◌⇐◌, at_start, undone}
+use Rattle.figures.specs.Pieces.{odd_odd_rounded}
 use Rattle.figures.specs.Block.{list}
 use Rattle.figures.proofs.Parts.{told}
 use Rattle.core_operators.proofs.transform.undo_odd_odd_rounded_told.Statement.{statement}
 use Rattle.core_operators.proofs.transform.undo_odd_odd_rounded_told.Tie as tie
 
 returns : tie.Need-returns
-unfolding back oddOddRounded
+unfolding back odd_odd_rounded
 returns c55 =
     let c37 = c55.before.before.before.before.before.before.before.before.before.before.before.before.before.before.before.before.before.before in
     let c34 = c37.before.before.before in
@@ -34,8 +34,8 @@ returns c55 =
     let e = t4.before.before.before.before in
     let v = ap list (told e.args.v t4.struct-told4.given) in
     rw (to_z-of_z w32 _ e.ranges.k, to_z-of_z w32 _ e.ranges.l) at
-    (undone e.args.tell (oddOddRounded _ _) _ v
-    (at-start
+    (undone e.args.tell (odd_odd_rounded _ _) _ v
+    (at_start
     ⇐ plus number c5.add-told.ensures
     ⇐ minus number c6.sub_told.ensures
     ⇐ minus (shifted number c8.shift.type-inv c8.shift.ensures) c11.sub-told2.ensures

@@ -2,7 +2,7 @@
 use mathlib.Core.Path.{ap}
 use borrow.Author.Rules.{rules}
 use Rattle.lifting.specs.Program.{back}
-use Rattle.lifting.proofs.Traces.{number, shifted, rounded, scaled, plus, minus, taken, ◌⇐◌, at-start, undone}
+use Rattle.lifting.proofs.Traces.{number, shifted, rounded, scaled, plus, minus, taken, ◌⇐◌, at_start, undone}
 use Rattle.figures.specs.Figures.{odd}
 use Rattle.figures.specs.Block.{list}
 use Rattle.figures.proofs.Parts.{told}
@@ -36,7 +36,7 @@ returns c72 =
     let e = t4.before.before.before.before in
     let v = ap list (told e.args.v t4.struct-told4.given) in
     undone e.args.tell odd _ v
-    (at-start
+    (at_start
     ⇐ plus number c5.add-told.ensures
     ⇐ minus number c6.sub_told.ensures
     ⇐ taken (rounded number c8.rounded-told.ensures) c10.sub-told2.ensures

@@ -1,18 +1,18 @@
 -- The entry is a place of the other table, which sends it back.
 use borrow.Author.Rules.{rules}
-use Rattle.figures.specs.Figures.{inverseReorder, forwardReorder}
+use Rattle.figures.specs.Figures.{inverse_reorder, forward_reorder}
 use Rattle.core_transform.proofs.Back.{back}
 use Rattle.core_transform.proofs.tables.forward_after_inverse.Statement.{statement}
 use Rattle.core_transform.proofs.tables.forward_after_inverse.Tie as tie
 
 mul-result-2 : tie.Need-overflow-mul-result-2
-mul-result-2 c = let b = back inverseReorder forwardReorder tt c.args.k c.requires in search rules
+mul-result-2 c = let b = back inverse_reorder forward_reorder tt c.args.k c.requires in search rules
 
 array-read-result-2 : tie.Need-array-read-result-2
-array-read-result-2 c = (back inverseReorder forwardReorder tt c.args.k c.requires).inside
+array-read-result-2 c = (back inverse_reorder forward_reorder tt c.args.k c.requires).inside
 
 returns : tie.Need-returns
-returns c = (back inverseReorder forwardReorder tt c.args.k c.requires).same
+returns c = (back inverse_reorder forward_reorder tt c.args.k c.requires).same
 
 pub forward-after-inverse-spec : {M : Type 1} → statement M
 forward-after-inverse-spec = tie.close (tie.spec (λ c. search rules) (λ c. search rules) mul-result-2 array-read-result-2 returns)

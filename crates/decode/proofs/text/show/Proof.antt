@@ -5,7 +5,7 @@ use native.Mathlib.Omega.{arith}
 use borrow.Author.Rules.{rules}
 use lib.ListN.{length}
 use lib.Seq.{length-take-le}
-use Rattle.decimal.specs.Text.{refusedLine, over}
+use Rattle.decimal.specs.Text.{refused_line, over}
 use Rattle.decimal.proofs.Room.{count_fits, written-fits}
 use Rattle.picture.specs.Sizes.{Sized}
 use Rattle.decode.proofs.Pictures.{refused-length, refused-shown, sized, small, area, samples-row, front-is, rows-shown}
@@ -20,7 +20,7 @@ returns c =
     let s = d.before.before.before.before.before.before.before in
     let bytes = s.args.bytes.now in
     let out = s.args.out.now in
-    let line = refusedLine d.decode.result.number in
+    let line = refused_line d.decode.result.number in
     let short : length line ≤ 19 = refused-length d.decode.result.number (omega arith) in
     let room : length line ≤ length out = omega (arith, short, s.requires) in
     let e = refused-shown bytes d.decode.result d.decode.ensures.0 t.if1.true in
@@ -63,8 +63,8 @@ write-rows-requires c κs =
       (omega (arith, across, (picture l).wide), omega (arith, all-few a, s.requires)),
     )
 
-returns-2 : tie.Need-returns-2
-returns-2 c =
+returns_2 : tie.Need-returns-2
+returns_2 c =
     let w = c.before.before in
     let a = w.before.before.before.before.before in
     let l = a.before.before in
@@ -86,4 +86,4 @@ show-spec =
     tie.close
     (tie.spec (λ c. search rules) (λ c. search rules) (λ c. search rules) (λ c. search rules) (λ c κs. search rules) (λ c κs. search rules) (λ c. search rules) returns
     (λ c κs. picture c.before) (λ c. search rules) (λ c. search rules) (λ c. omega (arith, all-few c.before.before)) array-share-prefix-samples
-    (λ c. sym (length-take-le _ _ (array-share-prefix-samples c.before))) write-rows-requires (λ c. search rules) returns-2)
+    (λ c. sym (length-take-le _ _ (array-share-prefix-samples c.before))) write-rows-requires (λ c. search rules) returns_2)

@@ -1,7 +1,7 @@
 -- The line has room, so that it is written whole.
 use native.Mathlib.Omega.{arith}
 use borrow.Author.Rules.{rules}
-use Rattle.decode.proofs.Lines.{line-length, line-count, line-laid}
+use Rattle.decode.proofs.Lines.{line-length, line-count, line_laid}
 use Rattle.decode.proofs.text.write_line.Statement.{statement}
 use Rattle.decode.proofs.text.write_line.Tie as tie
 
@@ -13,7 +13,7 @@ returns c =
     let p = s.requires.1 in
     let size = line-count a.numbers.now a.out.now a.from a.w a.at s.requires.0 p.0 p.1 p.2 r.write-row.ensures.0 in (
       (size, omega (arith, size, line-length a.numbers.now a.out.now a.from a.w a.at s.requires.0 p.0 p.1 p.2)),
-      line-laid a.numbers.now a.out.now a.from a.w a.at s.requires.0 p.0 p.1 p.2 r.write-row.ensures.1,
+      line_laid a.numbers.now a.out.now a.from a.w a.at s.requires.0 p.0 p.1 p.2 r.write-row.ensures.1,
     )
 
 pub write-line-spec : {M : Type 1} → statement M

@@ -7,7 +7,7 @@ use lib.ListN.{length}
 use Rattle.decimal.specs.Text.{over}
 use Rattle.decode.specs.Shown.{rows}
 use Rattle.grid.proofs.Rows.{row_inside}
-use Rattle.decode.proofs.Lines.{next-size, next-laid, last_row}
+use Rattle.decode.proofs.Lines.{next_size, next_laid, last_row}
 use Rattle.decode.proofs.text.write_rows.Statement.{statement}
 use Rattle.decode.proofs.text.write_rows.Tie as tie
 
@@ -57,10 +57,10 @@ loop-again c =
     let y = t.before.loop.y in (
       omega (arith, t.loop-test.true),
       omega (arith, i.1),
-      next-size xs s.args.out.now t.before.loop.out w y i.1 i.2 e.0.0,
+      next_size xs s.args.out.now t.before.loop.out w y i.1 i.2 e.0.0,
       omega (arith, i.3, e.0.1),
       l.write-line.auto.1.1.1.0 ∙ i.4,
-      next-laid xs s.args.out.now t.before.loop.out w y i.1 i.2 i.5 e.1,
+      next_laid xs s.args.out.now t.before.loop.out w y i.1 i.2 i.5 e.1,
     )
 
 returns : tie.Need-returns invariant-loop decreases-loop

@@ -8,7 +8,7 @@ use Rattle.picture.specs.Sizes.{macroblocks}
 use Rattle.picture.specs.Planes.{Lengths, planes}
 use Rattle.transform.proofs.NoWrap.{first-within}
 use Rattle.forward.proofs.Judged.{calm}
-use Rattle.forward.proofs.Whole.{planes-are, wraps-are}
+use Rattle.forward.proofs.Whole.{planes-are, wraps_are}
 use Rattle.forward.proofs.told.forward_told.Statement.{statement}
 use Rattle.forward.proofs.told.forward_told.Tie as tie
 
@@ -59,12 +59,12 @@ returns c =
     let long : Lengths (macroblocks (s t).args.size) (planes w.0 w.1.0 v.1.1.0) = record { dc = z.0 ∙ (fit t).dc; low = z.1.0 ∙ (fit t).low; high = (fit t).high } in
     let a = (s t).args in (
       planes-are a.mode a.size (s t).requires.0 a.samples.now v.0 v.1.0 v.1.1.0 w.0 w.1.0 long t.undo-level-two.ensures.0 o.level-one-told.ensures.0,
-      wraps-are a.mode a.size (s t).requires.0 a.samples.now v.0 v.1.0 v.1.1.0 w.0 w.1.0 long t.undo-level-two.ensures.0 o.level-one-told.ensures.0
+      wraps_are a.mode a.size (s t).requires.0 a.samples.now v.0 v.1.0 v.1.1.0 w.0 w.1.0 long t.undo-level-two.ensures.0 o.level-one-told.ensures.0
           q.level-two-wraps.ensures o.level-one-told.ensures.1,
     )
 
-returns-2 : tie.Need-returns-2
-returns-2 c =
+returns_2 : tie.Need-returns-2
+returns_2 c =
     let u = c.before.before in
     let e = u.before.before.before in
     let b = e.before in
@@ -79,7 +79,7 @@ returns-2 c =
     let first = or_no (t.undo-level-two.result || l.any-large.result) b.any-large2.result e.if1.false in
     let none = or_no t.undo-level-two.result l.any-large.result first.0 in (
       planes-are a.mode a.size size a.samples.now v.0 v.1.0 v.1.1.0 w.0 w.1.0 long t.undo-level-two.ensures.0 u.undo-level-one.ensures,
-      wraps-are a.mode a.size size a.samples.now v.0 v.1.0 v.1.1.0 w.0 w.1.0 long t.undo-level-two.ensures.0 u.undo-level-one.ensures
+      wraps_are a.mode a.size size a.samples.now v.0 v.1.0 v.1.1.0 w.0 w.1.0 long t.undo-level-two.ensures.0 u.undo-level-one.ensures
           (calm a.mode.second (omega (arith, size.wide)) (omega (arith, size.tall)) (t.undo-level-two.ensures.1 none.0))
           (calm a.mode.first size.wide size.tall (first-within _ _ (l.any-large.ensures.0 none.1) (b.any-large2.ensures.0 first.1))),
     )
@@ -87,4 +87,4 @@ returns-2 c =
 pub forward-told-spec : {M : Type 1} → statement M
 forward-told-spec =
     tie.close
-    (tie.spec asked-two (λ c κs. search rules) (λ c κs. search rules) judge-requires told-requires (λ c. search rules) (λ c. search rules) (λ c. search rules) returns asked (λ c. search rules) (λ c. search rules) (λ c. search rules) returns-2)
+    (tie.spec asked-two (λ c κs. search rules) (λ c κs. search rules) judge-requires told-requires (λ c. search rules) (λ c. search rules) (λ c. search rules) returns asked (λ c. search rules) (λ c. search rules) (λ c. search rules) returns_2)

@@ -34,8 +34,8 @@ returns c =
     let z = (s u).requires.0 in
     (u.undo-level-one.ensures, judged (s u).args.filtered z.wide z.tall (row u) u.undo-level-one.ensures (sym c.if2.true ∙ (f u).held-filters-wrap-if.ensures) refl)
 
-returns-2 : tie.Need-returns-2
-returns-2 c =
+returns_2 : tie.Need-returns-2
+returns_2 c =
     let e = c.before.before.before in
     let u = e.before.before.before.before in
     let z = (s u).requires.0 in
@@ -61,4 +61,4 @@ cores-requires c κs =
 pub level-one-told-spec : {M : Type 1} → statement M
 level-one-told-spec =
     tie.close
-    (tie.spec (λ c κs. search rules) (λ c κs. search rules) held-requires (λ c κs. search rules) (λ c. search rules) (λ c. search rules) returns cores-requires (λ c. search rules) (λ c. search rules) returns-2 (λ c. search rules) (λ c. search rules) returns-3)
+    (tie.spec (λ c κs. search rules) (λ c κs. search rules) held-requires (λ c κs. search rules) (λ c. search rules) (λ c. search rules) returns cores-requires (λ c. search rules) (λ c. search rules) returns_2 (λ c. search rules) (λ c. search rules) returns-3)

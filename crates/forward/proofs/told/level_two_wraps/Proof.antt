@@ -28,8 +28,8 @@ returns c =
     let a = f.before.before in
     core-wraps (s a).args.filtered (wide a) (tall a) (row a) (s a).requires.1.1.1 (sym c.if2.true ∙ f.plane-cores-wrap.ensures)
 
-returns-2 : tie.Need-returns-2
-returns-2 c =
+returns_2 : tie.Need-returns-2
+returns_2 c =
     let b = c.before.before.before in
     let e = b.before in
     let f = e.before in
@@ -52,4 +52,4 @@ blocks-requires c κs = (s c.before.before.before).pre.0
 pub level-two-wraps-spec : {M : Type 1} → statement M
 level-two-wraps-spec =
     tie.close
-    (tie.spec (λ c κs. search rules) (λ c κs. search rules) returns blocks-requires (λ c. search rules) (λ c. search rules) filters-requires returns-2 returns-3)
+    (tie.spec (λ c κs. search rules) (λ c κs. search rules) returns blocks-requires (λ c. search rules) (λ c. search rules) filters-requires returns_2 returns-3)

@@ -3,17 +3,17 @@ use Prim.Native.Nat.{◌-◌, ◌*◌, ◌≤◌}
 use mathlib.Core.Path.{◌≡◌}
 use native.Mathlib.Omega.{arith}
 use borrow.Author.Rules.{rules}
-use Rattle.transform.specs.Level.{squareFilters}
+use Rattle.transform.specs.Level.{square_filters}
 use Rattle.grid.proofs.Rows.{row-above}
-use Rattle.forward_one_filters.specs.Windows.{filtersOfRow}
-use Rattle.forward_one_filters.proofs.Undoing.{Undoing, undoing-start, undoing_step, undoing-end}
+use Rattle.forward_one_filters.specs.Windows.{filters_of_row}
+use Rattle.forward_one_filters.proofs.Undoing.{Undoing, undoing_start, undoing_step, undoing_end}
 use Rattle.forward_one_filters.proofs.Edges.{bottom-row}
 use Rattle.forward_one_filters.proofs.filters.undo_square_filters.Statement.{statement}
 use Rattle.forward_one_filters.proofs.filters.undo_square_filters.Tie as tie
 
 abbrev invariant-loop : tie.invariant-loop
 invariant-loop size dc₀ low₀ width t₀ j₀ dc low t j =
-    Undoing size (λ j. filtersOfRow size j) (size.height.0 - 1) dc₀ low₀ dc low j × (t ≡ j * size.width.0)
+    Undoing size (λ j. filters_of_row size j) (size.height.0 - 1) dc₀ low₀ dc low j × (t ≡ j * size.width.0)
 
 abbrev decreases-loop : tie.decreases-loop
 decreases-loop size dc₀ low₀ width t₀ j₀ dc low t j = j
@@ -31,13 +31,13 @@ loop-again c =
     (undoing_step l.before.loop.invariant.0 (omega arith) k.1.0 k.1.1.0 d.undo-squares-across.ensures, omega (arith, above l))
 
 returns : tie.Need-returns invariant-loop decreases-loop
-unfolding squareFilters
-returns c = undoing-end c.before.loop.invariant.0 (omega arith)
+unfolding square_filters
+returns c = undoing_end c.before.loop.invariant.0 (omega arith)
 
 pub undo-square-filters-spec : {M : Type 1} → statement M
 undo-square-filters-spec =
     tie.close
     (tie.spec invariant-loop decreases-loop (λ c. search rules) (λ c. omega (arith, bottom-row c.before.requires)) (λ c. search rules) (λ c. omega arith)
-    (λ c. let h = c.before.before.requires in (undoing-start h (omega arith), (bottom-row h).1)) (λ c. omega arith) (λ c. omega (arith, above c))
+    (λ c. let h = c.before.before.requires in (undoing_start h (omega arith), (bottom-row h).1)) (λ c. omega arith) (λ c. omega (arith, above c))
     (λ c κs. let l = c.before.before in let v = l.before.loop.invariant.0 in (v.held, (omega (arith, v.within), (above l).1)))
     (λ c. omega arith) loop-again (λ c. c.before.loop.invariant.0.of-dc) (λ c. c.before.loop.invariant.0.of_low) returns)

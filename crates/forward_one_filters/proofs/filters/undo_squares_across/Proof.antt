@@ -2,14 +2,14 @@
 use Prim.Native.Nat.{◌-◌}
 use native.Mathlib.Omega.{arith}
 use borrow.Author.Rules.{rules}
-use Rattle.forward_one_filters.specs.Windows.{filterOn}
-use Rattle.forward_one_filters.proofs.Edges.{beside-few}
-use Rattle.forward_one_filters.proofs.Undoing.{Undoing, undoing-start, undoing-steps, undoing-end}
+use Rattle.forward_one_filters.specs.Windows.{filter_on}
+use Rattle.forward_one_filters.proofs.Edges.{beside_few}
+use Rattle.forward_one_filters.proofs.Undoing.{Undoing, undoing_start, undoing_steps, undoing_end}
 use Rattle.forward_one_filters.proofs.filters.undo_squares_across.Statement.{statement}
 use Rattle.forward_one_filters.proofs.filters.undo_squares_across.Tie as tie
 
 abbrev invariant-loop : tie.invariant-loop
-invariant-loop size dc₀ low₀ j t i₀ dc low i = Undoing size (λ i. filterOn size j i) (size.width.0 - 1) dc₀ low₀ dc low i
+invariant-loop size dc₀ low₀ j t i₀ dc low i = Undoing size (λ i. filter_on size j i) (size.width.0 - 1) dc₀ low₀ dc low i
 
 abbrev decreases-loop : tie.decreases-loop
 decreases-loop size dc₀ low₀ j t i₀ dc low i = i
@@ -20,7 +20,7 @@ few c =
     let g = c.before.before in
     let l = g.before.before in
     let s = l.before.before in
-    omega (arith, beside-few s.args.j 0 l.loop.i {t = s.args.t} s.requires.0 s.requires.1.0 (omega (arith, l.loop.invariant.within)) (omega (arith, s.requires.1.1)))
+    omega (arith, beside_few s.args.j 0 l.loop.i {t = s.args.t} s.requires.0 s.requires.1.0 (omega (arith, l.loop.invariant.within)) (omega (arith, s.requires.1.1)))
 
 asked : tie.Need-undo-group-requires invariant-loop decreases-loop
 asked c κs =
@@ -38,10 +38,10 @@ loop-again c =
     let d = c.before.before in
     let g = d.before.before.before in
     let k = d.undo-group.auto in
-    undoing-steps g.group.result g.before.before.loop.invariant g.group.ensures.1 k.1.0 k.1.1.0 d.undo-group.ensures
+    undoing_steps g.group.result g.before.before.loop.invariant g.group.ensures.1 k.1.0 k.1.1.0 d.undo-group.ensures
 
 pub undo-squares-across-spec : {M : Type 1} → statement M
 undo-squares-across-spec =
     tie.close
-    (tie.spec invariant-loop decreases-loop (λ c. search rules) (λ c. omega arith) (λ c. undoing-start c.before.requires.0 (omega arith)) (λ c κs. tt) (λ c. omega (arith, c.group.ensures.1)) few asked
-    loop-less loop-again (λ c. c.before.loop.invariant.of-dc) (λ c. c.before.loop.invariant.of_low) (λ c. undoing-end c.before.loop.invariant (omega arith)))
+    (tie.spec invariant-loop decreases-loop (λ c. search rules) (λ c. omega arith) (λ c. undoing_start c.before.requires.0 (omega arith)) (λ c κs. tt) (λ c. omega (arith, c.group.ensures.1)) few asked
+    loop-less loop-again (λ c. c.before.loop.invariant.of-dc) (λ c. c.before.loop.invariant.of_low) (λ c. undoing_end c.before.loop.invariant (omega arith)))

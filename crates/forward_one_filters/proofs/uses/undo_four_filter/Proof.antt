@@ -1,12 +1,12 @@
 -- The numbers at the use's places, undone, are put back.
 use borrow.Author.Rules.{rules}
-use Rattle.forward_one_filters.specs.Edges.{filterOf}
+use Rattle.forward_one_filters.specs.Edges.{filter_of}
 use Rattle.forward_one_filters.proofs.Undoing.{used}
 use Rattle.forward_one_filters.proofs.uses.undo_four_filter.Statement.{statement}
 use Rattle.forward_one_filters.proofs.uses.undo_four_filter.Tie as tie
 
 returns : tie.Need-returns
-unfolding filterOf
+unfolding filter_of
 returns c =
     let w = c.before.before in
     let u = w.before.before.before in

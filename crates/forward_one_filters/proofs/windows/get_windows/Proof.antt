@@ -4,9 +4,9 @@ use mathlib.Core.Path.{◌≡◌, sym, ◌∙◌}
 use native.Mathlib.Omega.{arith}
 use lib.ListN.{length}
 use Rattle.lifting.specs.Program.{get}
-use Rattle.lanes.proofs.Beside.{Beside, beside-more}
+use Rattle.lanes.proofs.Beside.{Beside, beside_more}
 use Rattle.forward_one_grid.specs.Held.{numbers, window}
-use Rattle.forward_one_filters.proofs.Edges.{beside-few}
+use Rattle.forward_one_filters.proofs.Edges.{beside_few}
 use Rattle.forward_one_filters.proofs.Apart.{sixteen}
 use Rattle.forward_one_filters.proofs.windows.get_windows.Statement.{statement}
 use Rattle.forward_one_filters.proofs.windows.get_windows.Tie as tie
@@ -19,7 +19,7 @@ decreases-loop size dc low j i t n held₀ l₀ held l = n - l
 
 -- the windows' squares are few
 few : (s : tie.Start invariant-loop decreases-loop) → s.args.t + s.args.n < 216825
-few s = beside-few s.args.j s.args.i s.args.n s.requires.0 s.requires.1.1.0 s.requires.1.1.1 s.requires.1.0
+few s = beside_few s.args.j s.args.i s.args.n s.requires.0 s.requires.1.1.0 s.requires.1.1.1 s.requires.1.0
 
 loop-again : tie.Need-loop-preserved invariant-loop decreases-loop
 loop-again c =
@@ -27,7 +27,7 @@ loop-again c =
     let g = d.before in
     let l = g.before.before.before in
     let v = l.loop.invariant in
-    (omega arith, d.put-square.auto.0 ∙ v.1, beside-more _ l.loop.l _ _ _ (omega arith) v.1 g.get-window.ensures (sixteen _ _ _) d.put-square.ensures v.2)
+    (omega arith, d.put-square.auto.0 ∙ v.1, beside_more _ l.loop.l _ _ _ (omega arith) v.1 g.get-window.ensures (sixteen _ _ _) d.put-square.ensures v.2)
 
 pub get-windows-spec : {M : Type 1} → statement M
 get-windows-spec =

@@ -2,9 +2,9 @@
 use Prim.Native.Nat.{◌+◌, ◌-◌, ◌≤◌, ◌<◌}
 use mathlib.Core.Path.{refl, ◌∙◌}
 use native.Mathlib.Omega.{arith}
-use Rattle.forward_one_filters.proofs.Edges.{beside-few}
-use Rattle.forward_one_filters.proofs.Undoing.{undoing-start, undoing-end}
-use Rattle.forward_one_filters.proofs.Apart.{Storing, storing-step}
+use Rattle.forward_one_filters.proofs.Edges.{beside_few}
+use Rattle.forward_one_filters.proofs.Undoing.{undoing_start, undoing_end}
+use Rattle.forward_one_filters.proofs.Apart.{Storing, storing_step}
 use Rattle.forward_one_filters.proofs.windows.put_windows.Statement.{statement}
 use Rattle.forward_one_filters.proofs.windows.put_windows.Tie as tie
 
@@ -19,7 +19,7 @@ inside : (c : tie.After-put-window-arg2 invariant-loop decreases-loop) → let l
 inside c =
     let l = c.before.before.before in
     let s = l.before in
-    (l.loop.invariant.undoing.within, beside-few s.args.j s.args.i s.args.n s.requires.0 s.requires.1.1.0.0 s.requires.1.1.0.1 s.requires.1.0)
+    (l.loop.invariant.undoing.within, beside_few s.args.j s.args.i s.args.n s.requires.0 s.requires.1.1.0.0 s.requires.1.1.0.1 s.requires.1.0)
 
 asked : tie.Need-put-window-requires invariant-loop decreases-loop
 asked c κs =
@@ -36,11 +36,11 @@ loop-again c =
     let s = l.before in
     let v = l.loop.invariant in
     let k = d.put-window.auto in
-    storing-step _ s.requires.1.1.0.1 (omega arith) v k.1.0 k.1.1.0 (g.get-square.ensures ∙ s.requires.1.1.1 (l.loop.l - 1) (omega (arith, v.undoing.within))) d.put-window.ensures
+    storing_step _ s.requires.1.1.0.1 (omega arith) v k.1.0 k.1.1.0 (g.get-square.ensures ∙ s.requires.1.1.1 (l.loop.l - 1) (omega (arith, v.undoing.within))) d.put-window.ensures
 
 pub put-windows-spec : {M : Type 1} → statement M
 put-windows-spec =
     tie.close
-    (tie.spec invariant-loop decreases-loop (λ c. record { undoing = undoing-start c.requires.0 refl; same = λ m h. refl }) (λ c. omega arith)
+    (tie.spec invariant-loop decreases-loop (λ c. record { undoing = undoing_start c.requires.0 refl; same = λ m h. refl }) (λ c. omega arith)
     (λ c. omega (arith, inside c)) (λ c. omega (arith, inside c)) (λ c. omega (arith, inside c)) (λ c κs. omega (arith, inside c)) asked (λ c. omega arith) loop-again
-    (λ c. c.before.loop.invariant.undoing.of-dc) (λ c. c.before.loop.invariant.undoing.of_low) (λ c. undoing-end c.before.loop.invariant.undoing (omega arith)))
+    (λ c. c.before.loop.invariant.undoing.of-dc) (λ c. c.before.loop.invariant.undoing.of_low) (λ c. undoing_end c.before.loop.invariant.undoing (omega arith)))

@@ -1,7 +1,7 @@
 -- The windows go into one array, come out of the other undone, and are stored.
 use native.Mathlib.Omega.{arith}
 use borrow.Author.Rules.{rules}
-use Rattle.forward_one_filters.proofs.Apart.{undone-of}
+use Rattle.forward_one_filters.proofs.Apart.{undone_of}
 use Rattle.forward_one_filters.proofs.windows.undo_group.Statement.{statement}
 use Rattle.forward_one_filters.proofs.windows.undo_group.Tie as tie
 
@@ -10,7 +10,7 @@ asked c κs =
     let u = c.before.before.before.before in
     let g = u.before.before.before.before in
     let s = g.before.before.before.before in
-    (s.requires.0, (s.requires.1.0, ((s.requires.1.1.0, s.requires.1.1.1, s.requires.1.1.2, u.undo-four-windows.ensures.len), λ l h. undone-of _ _ _ _ l (omega (arith, h, s.requires.1.1)) u.undo-four-windows.ensures (g.get-windows.ensures l h))))
+    (s.requires.0, (s.requires.1.0, ((s.requires.1.1.0, s.requires.1.1.1, s.requires.1.1.2, u.undo-four-windows.ensures.len), λ l h. undone_of _ _ _ _ l (omega (arith, h, s.requires.1.1)) u.undo-four-windows.ensures (g.get-windows.ensures l h))))
 
 pub undo-group-spec : {M : Type 1} → statement M
 undo-group-spec =

@@ -3,7 +3,7 @@ use Prim.Native.Nat.{◌+◌}
 use mathlib.Core.Path.{refl}
 use native.Mathlib.Omega.{arith}
 use borrow.Author.Rules.{rules}
-use Rattle.forward_one_grid.proofs.Lines.{Meeting, meeting, window-read}
+use Rattle.forward_one_grid.proofs.Lines.{Meeting, meeting, window_read}
 use Rattle.forward_one_grid.proofs.window.get_window.Statement.{statement}
 use Rattle.forward_one_grid.proofs.window.get_window.Tie as tie
 
@@ -15,7 +15,7 @@ returns c =
     let c3 = c.before in
     let c2 = c3.before in
     let c1 = c2.before in
-    window-read (at c1.before.before) _ _ _ _ _ c1.get_pairs.ensures c2.get-pairs2.ensures c3.get-pairs3.ensures c.get-pairs4.ensures
+    window_read (at c1.before.before) _ _ _ _ _ c1.get_pairs.ensures c2.get-pairs2.ensures c3.get-pairs3.ensures c.get-pairs4.ensures
 
 pub get-window-spec : {M : Type 1} → statement M
 get-window-spec =

@@ -3,7 +3,7 @@ use Prim.Native.Nat.{◌+◌}
 use mathlib.Core.Path.{refl, ◌∙◌}
 use native.Mathlib.Omega.{arith}
 use borrow.Author.Rules.{rules}
-use Rattle.forward_one_grid.proofs.Lines.{Meeting, meeting, window-stored}
+use Rattle.forward_one_grid.proofs.Lines.{Meeting, meeting, window_stored}
 use Rattle.forward_one_grid.proofs.window.put_window.Statement.{statement}
 use Rattle.forward_one_grid.proofs.window.put_window.Tie as tie
 
@@ -46,7 +46,7 @@ returns c =
     let d2 = d3.before.before.before.before.before.before in
     let d1 = d2.before.before.before.before.before.before in
     let s = s1 d1.before.before.before in
-    window-stored (at s) s.args.t7 _ d1.put-pairs.ensures d2.put-pairs2.ensures d3.put-pairs3.ensures d4.put-pairs4.ensures
+    window_stored (at s) s.args.t7 _ d1.put-pairs.ensures d2.put-pairs2.ensures d3.put-pairs3.ensures d4.put-pairs4.ensures
 
 pub put-window-spec : {M : Type 1} → statement M
 put-window-spec =

@@ -16,8 +16,8 @@ returns c =
     let s = o.before.before in
     (o.level-one.ensures, core-wraps s.args.filtered s.args.size.width.0 s.args.size.height.0 _ (sym c.if2.true ∙ f.first-cores-wrap.ensures))
 
-returns-2 : tie.Need-returns-2
-returns-2 c =
+returns_2 : tie.Need-returns-2
+returns_2 c =
     let e = c.before.before.before.before in
     let f = e.before in
     let b = f.before.before in
@@ -48,4 +48,4 @@ filters-requires c κs =
 pub level-one-told-spec : {M : Type 1} → statement M
 level-one-told-spec =
     tie.close
-    (tie.spec (λ c κs. search rules) (λ c κs. search rules) (λ c κs. search rules) (λ c κs. search rules) (λ c. search rules) returns (λ c. search rules) (λ c. search rules) filters-requires (λ c. search rules) returns-2 (λ c. search rules) returns-3)
+    (tie.spec (λ c κs. search rules) (λ c κs. search rules) (λ c κs. search rules) (λ c κs. search rules) (λ c. search rules) returns (λ c. search rules) (λ c. search rules) filters-requires (λ c. search rules) returns_2 (λ c. search rules) returns-3)

@@ -11,7 +11,7 @@ use Rattle.lifting.specs.Wraps.{wraps, Within}
 use Rattle.lifting.proofs.Tests.{or_no}
 use Rattle.transform.specs.Level.{cores}
 use Rattle.picture.specs.Sizes.{macroblocks}
-use Rattle.transform.specs.Grids.{secondGrid}
+use Rattle.transform.specs.Grids.{second_grid}
 use Rattle.large_numbers.proofs.Small.{row_as}
 use Rattle.inverse.proofs.Judged.{core-wraps, second-calm, second-filter-wraps}
 use Rattle.inverse.proofs.told.level_two_told.Statement.{statement}
@@ -59,14 +59,14 @@ module _ (c : tie.After-level-two) where
   s = m.before
 
   cores-told : f.second-cores-wrap.result ≡ wraps (cores (4 * s.args.size.width.0) (4 * s.args.size.height.0))
-      (secondGrid s.args.size.width.0 s.args.size.height.0 (take (16 * macroblocks s.args.size) s.args.samples.now) s.args.high.now)
+      (second_grid s.args.size.width.0 s.args.size.height.0 (take (16 * macroblocks s.args.size) s.args.samples.now) s.args.high.now)
   cores-told = rw (same s m.macroblocks.ensures.0) at f.second-cores-wrap.ensures
 
-  view-row : Row (16 * macroblocks s.args.size) (take (16 * macroblocks s.args.size) s.args.samples.now)
-  view-row = rw (same s m.macroblocks.ensures.0) at (row_as a.any-large.ensures.1 (long s m.macroblocks.ensures.0))
+  view_row : Row (16 * macroblocks s.args.size) (take (16 * macroblocks s.args.size) s.args.samples.now)
+  view_row = rw (same s m.macroblocks.ensures.0) at (row_as a.any-large.ensures.1 (long s m.macroblocks.ensures.0))
 
-  view-small : a.any-large.result ≡ false → Within 33554432 (take (16 * macroblocks s.args.size) s.args.samples.now)
-  view-small h = rw (same s m.macroblocks.ensures.0) at (a.any-large.ensures.0 h)
+  view_small : a.any-large.result ≡ false → Within 33554432 (take (16 * macroblocks s.args.size) s.args.samples.now)
+  view_small h = rw (same s m.macroblocks.ensures.0) at (a.any-large.ensures.0 h)
 
 returns : tie.Need-returns
 returns c =
@@ -74,22 +74,22 @@ returns c =
     let z = (s l).args.size in
     (l.level-two.ensures.0, core-wraps (s l).args.filtered (4 * z.width.0) (4 * z.height.0) _ (sym c.if2.true ∙ cores-told l))
 
-returns-2 : tie.Need-returns-2
-returns-2 c =
+returns_2 : tie.Need-returns-2
+returns_2 c =
     let k = c.before.before.before.before in
     let e = k.before in
     let l = e.before.before.before in
     let y = (s l).requires in
     let told = rw (k.blocks2.ensures.0, k.blocks2.ensures.1) at c.filters-wrap-if.ensures in (
       l.level-two.ensures.0,
-      second-filter-wraps (s l).args.filtered y.0.wide y.0.tall (view-row l) (row_as (b l).any-large2.ensures.1 y.1.1) (sym e.if2.false ∙ cores-told l) l.level-two.ensures.0 told,
+      second-filter-wraps (s l).args.filtered y.0.wide y.0.tall (view_row l) (row_as (b l).any-large2.ensures.1 y.1.1) (sym e.if2.false ∙ cores-told l) l.level-two.ensures.0 told,
     )
 
 returns-3 : tie.Need-returns-3
 returns-3 c =
     let l = c.before.before in
     let none = or_no (a l).any-large.result (b l).any-large2.result c.if1.false in
-    (l.level-two.ensures.0, second-calm (s l).args.filtered (s l).requires.0.wide (s l).requires.0.tall (view-small l none.0) ((b l).any-large2.ensures.0 none.1))
+    (l.level-two.ensures.0, second-calm (s l).args.filtered (s l).requires.0.wide (s l).requires.0.tall (view_small l none.0) ((b l).any-large2.ensures.0 none.1))
 
 filters-requires : tie.Need-filters-wrap-if-requires
 filters-requires c κs =
@@ -105,4 +105,4 @@ pub level-two-told-spec : {M : Type 1} → statement M
 level-two-told-spec =
     tie.close
     (tie.spec (λ c κs. search rules) (λ c. search rules) (λ c. search rules) (λ c. search rules) aggregate (λ c κs. search rules) (λ c κs. search rules) (λ c. search rules) aggregate-2 second-cores-requires (λ c κs. search rules)
-    (λ c. search rules) returns blocks-requires (λ c. search rules) (λ c. search rules) filters-requires (λ c. search rules) returns-2 (λ c. search rules) returns-3)
+    (λ c. search rules) returns blocks-requires (λ c. search rules) (λ c. search rules) filters-requires (λ c. search rules) returns_2 (λ c. search rules) returns-3)

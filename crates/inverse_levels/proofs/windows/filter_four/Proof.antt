@@ -1,8 +1,8 @@
 -- Held in lanes, and filtered lane by lane.
 use mathlib.Core.Path.{◌∙◌, ap}
 use Rattle.lifting.specs.Program.{run}
-use Rattle.figures.specs.Figures.{squareFilter}
-use Rattle.lanes.proofs.Rows.{lanes-held}
+use Rattle.figures.specs.Figures.{square_filter}
+use Rattle.lanes.proofs.Rows.{lanes_held}
 use borrow.Author.Rules.{rules}
 use Rattle.inverse_levels.proofs.windows.filter_four.Statement.{statement}
 use Rattle.inverse_levels.proofs.windows.filter_four.Tie as tie
@@ -16,7 +16,7 @@ returns c l h =
     let first = second.before.before.before in
     let a = first.before.before.args in
     done.four-square-filters.ensures l h
-    ∙ ap (run squareFilter) (lanes-held a.grid.now _ _ _ _ a.w a.at first.hold.ensures second.hold2.ensures third.hold3.ensures fourth.hold4.ensures l h)
+    ∙ ap (run square_filter) (lanes_held a.grid.now _ _ _ _ a.w a.at first.hold.ensures second.hold2.ensures third.hold3.ensures fourth.hold4.ensures l h)
 
 pub filter-four-spec : {M : Type 1} → statement M
 filter-four-spec =

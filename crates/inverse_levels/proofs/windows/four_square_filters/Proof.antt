@@ -4,15 +4,15 @@ use mathlib.Core.Path.{◌≡◌, sym, ◌∙◌, ap}
 use native.Mathlib.Omega.{arith}
 use lib.ListN.{length}
 use Rattle.lifting.specs.Program.{get, run}
-use Rattle.figures.specs.Figures.{squareFilter}
+use Rattle.figures.specs.Figures.{square_filter}
 use Rattle.lanes.specs.Lanes.{lane_of}
-use Rattle.lanes.proofs.Beside.{Beside, beside-more}
+use Rattle.lanes.proofs.Beside.{Beside, beside_more}
 use Rattle.inverse_levels.proofs.Side.{length-square-filter}
 use Rattle.inverse_levels.proofs.windows.four_square_filters.Statement.{statement}
 use Rattle.inverse_levels.proofs.windows.four_square_filters.Tie as tie
 
 abbrev invariant-loop : tie.invariant-loop
-invariant-loop a b c d out₀ l₀ out l = (l ≤ 4) × (length out ≡ 64) × Beside (λ n. run squareFilter (lane_of a b c d n)) l out
+invariant-loop a b c d out₀ l₀ out l = (l ≤ 4) × (length out ≡ 64) × Beside (λ n. run square_filter (lane_of a b c d n)) l out
 
 abbrev decreases-loop : tie.decreases-loop
 decreases-loop a b c d out₀ l₀ out l = 4 - l
@@ -38,7 +38,7 @@ loop-again c =
     let v = l.loop.invariant in (
       omega arith,
       d.put-square.auto.0 ∙ v.1,
-      beside-more (λ n. run squareFilter (its n)) l.loop.l _ _ _ (omega arith) v.1 (e.square-filter.ensures ∙ ap (run squareFilter) {y = its l.loop.l} e.before.lane.ensures) (length-square-filter _) d.put-square.ensures v.2,
+      beside_more (λ n. run square_filter (its n)) l.loop.l _ _ _ (omega arith) v.1 (e.square-filter.ensures ∙ ap (run square_filter) {y = its l.loop.l} e.before.lane.ensures) (length-square-filter _) d.put-square.ensures v.2,
     )
 
 same_length : tie.Need-same-length invariant-loop decreases-loop

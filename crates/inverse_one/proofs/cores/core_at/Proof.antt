@@ -1,12 +1,12 @@
 -- The square's numbers through the operator and back to their places.
 use borrow.Author.Rules.{rules}
-use Rattle.transform.specs.Level.{coreAt}
+use Rattle.transform.specs.Level.{core_at}
 use Rattle.grid.proofs.Squares.{used}
 use Rattle.inverse_one.proofs.cores.core_at.Statement.{statement}
 use Rattle.inverse_one.proofs.cores.core_at.Tie as tie
 
 returns : tie.Need-returns
-unfolding coreAt
+unfolding core_at
 returns c =
     let c1 = c.before in
     let c3 = c1.before.before in

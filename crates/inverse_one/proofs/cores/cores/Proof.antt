@@ -4,7 +4,7 @@ use mathlib.Core.Path.{◌≡◌, refl, ◌∙◌}
 use native.Mathlib.Omega.{arith}
 use lib.ListN.{length}
 use Rattle.lifting.specs.Program.{run, each}
-use Rattle.transform.specs.Level.{cell, coreAt, cores}
+use Rattle.transform.specs.Level.{cell, core_at, cores}
 use Rattle.inverse_levels.proofs.Loops.{each_none, each_more}
 use Rattle.grid.proofs.Rows.{row_inside}
 use Rattle.inverse_one.proofs.cores.cores.Statement.{statement}
@@ -12,7 +12,7 @@ use Rattle.inverse_one.proofs.cores.cores.Tie as tie
 
 abbrev invariant-loop : tie.invariant-loop
 invariant-loop grid₀ p q j₀ grid j =
-    (j ≤ q) × (length grid ≡ length grid₀) × (grid ≡ run (each j (λ k. each p (λ i. coreAt (4 * p) (cell p (4 * k) (4 * i))))) grid₀)
+    (j ≤ q) × (length grid ≡ length grid₀) × (grid ≡ run (each j (λ k. each p (λ i. core_at (4 * p) (cell p (4 * k) (4 * i))))) grid₀)
 
 abbrev decreases-loop : tie.decreases-loop
 decreases-loop grid₀ p q j₀ grid j = q - j

@@ -4,14 +4,14 @@ use mathlib.Core.Path.{◌≡◌, refl, ◌∙◌, ap₂}
 use native.Mathlib.Omega.{arith}
 use lib.ListN.{length}
 use Rattle.lifting.specs.Program.{run, each}
-use Rattle.transform.specs.Level.{cell, coreAt}
-use Rattle.inverse_levels.proofs.Loops.{each_none, each_more, few-squares}
+use Rattle.transform.specs.Level.{cell, core_at}
+use Rattle.inverse_levels.proofs.Loops.{each_none, each_more, few_squares}
 use Rattle.inverse_one.proofs.cores.cores_across.Statement.{statement}
 use Rattle.inverse_one.proofs.cores.cores_across.Tie as tie
 
 abbrev invariant-loop : tie.invariant-loop
 invariant-loop grid₀ p j squares w first i₀ grid i =
-    (i ≤ p) × (length grid ≡ length grid₀) × (grid ≡ run (each i (λ k. coreAt (4 * p) (cell p (4 * j) (4 * k)))) grid₀)
+    (i ≤ p) × (length grid ≡ length grid₀) × (grid ≡ run (each i (λ k. core_at (4 * p) (cell p (4 * j) (4 * k)))) grid₀)
 
 abbrev decreases-loop : tie.decreases-loop
 decreases-loop grid₀ p j squares w first i₀ grid i = p - i
@@ -21,7 +21,7 @@ module _ (s : tie.Start invariant-loop decreases-loop) where
   same = omega (arith, s.requires.1)
 
   few : s.args.j * s.args.p ≤ 3469200
-  few = few-squares s.args.j s.args.p (omega (arith, s.pre.1)) (omega (arith, s.pre.1))
+  few = few_squares s.args.j s.args.p (omega (arith, s.pre.1)) (omega (arith, s.pre.1))
 
   columns : 4 * (s.args.p % 4096) ≡ 4 * s.args.p
   columns = omega (arith, same)
@@ -42,7 +42,7 @@ loop-again c =
     let v = l.loop.invariant in
     let n = l.loop.i in
     let at : 4 * (a.j % 2048) * (4 * (a.p % 4096)) + 4 * n ≡ cell a.p (4 * a.j) (4 * n) = omega (arith, start s) in
-    (omega (arith, same s), c.before.core_at.auto.0 ∙ v.1, each_more _ _ _ _ _ v.2 (c.before.core_at.ensures ∙ ap₂ (λ (w : ℕ) (k : ℕ). run (coreAt w k) l.loop.grid) (columns s) at))
+    (omega (arith, same s), c.before.core_at.auto.0 ∙ v.1, each_more _ _ _ _ _ v.2 (c.before.core_at.ensures ∙ ap₂ (λ (w : ℕ) (k : ℕ). run (core_at w k) l.loop.grid) (columns s) at))
 
 returns : tie.Need-returns invariant-loop decreases-loop
 returns c = let s = c.before.before in let e : c.before.loop.i ≡ s.args.p = omega (arith, same s, c.before.loop.invariant.0) in rw e at c.before.loop.invariant.2

@@ -7,14 +7,14 @@ use lib.IntN.{ℤ}
 use Rattle.lifting.specs.Program.{run}
 use Rattle.figures.specs.Figures.{core}
 use Rattle.figures.proofs.Parts.{held}
-use Rattle.lanes.proofs.Beside.{Beside, beside-more}
-use Rattle.inverse_two.specs.Blocks.{blockFrom, blockInLane}
+use Rattle.lanes.proofs.Beside.{Beside, beside_more}
+use Rattle.inverse_two.specs.Blocks.{block_from, block_in_lane}
 use Rattle.inverse_two.proofs.Kernel.{length-core}
 use Rattle.inverse_two.proofs.four_blocks.four_cores.Statement.{statement}
 use Rattle.inverse_two.proofs.four_blocks.four_cores.Tie as tie
 
 abbrev invariant-loop : tie.invariant-loop
-invariant-loop zeros a b c d out₀ l₀ out l = (l ≤ 4) × (length out ≡ 64) × Beside (λ n. run core (blockInLane zeros a b c d n)) l out
+invariant-loop zeros a b c d out₀ l₀ out l = (l ≤ 4) × (length out ≡ 64) × Beside (λ n. run core (block_in_lane zeros a b c d n)) l out
 
 abbrev decreases-loop : tie.decreases-loop
 decreases-loop zeros a b c d out₀ l₀ out l = 4 - l
@@ -37,12 +37,12 @@ loop-again c =
     let more = in-loop.loop-test.true in
     let s = l.before in
     let r = s.args in
-    let its = blockInLane r.zeros.now r.a.now r.b.now r.c.now r.d.now in
-    let zero = ap (λ (z : ℤ). blockFrom z r.a.now r.b.now r.c.now r.d.now (12 - 4 * l.loop.l)) (held e.before.before.block-arg.given refl) in
+    let its = block_in_lane r.zeros.now r.a.now r.b.now r.c.now r.d.now in
+    let zero = ap (λ (z : ℤ). block_from z r.a.now r.b.now r.c.now r.d.now (12 - 4 * l.loop.l)) (held e.before.before.block-arg.given refl) in
     let v = l.loop.invariant in (
       omega (arith, more),
       d.put-square.auto.0 ∙ v.1,
-      beside-more (λ n. run core (its n)) l.loop.l _ _ _ (omega (arith, more)) v.1 (e.core.ensures ∙ ap (run core) {y = its l.loop.l} (e.before.block.ensures ∙ zero)) (length-core _) d.put-square.ensures v.2,
+      beside_more (λ n. run core (its n)) l.loop.l _ _ _ (omega (arith, more)) v.1 (e.core.ensures ∙ ap (run core) {y = its l.loop.l} (e.before.block.ensures ∙ zero)) (length-core _) d.put-square.ensures v.2,
     )
 
 same_length : tie.Need-same-length invariant-loop decreases-loop

@@ -5,7 +5,7 @@ use mir.Syntax.{w32}
 use mir.ValLaws.{to_z-of_z}
 use Rattle.lifting.proofs.Bits.{again}
 use Rattle.lifting.proofs.WrapLaws.{three}
-use Rattle.lifting.proofs.Outside.{thrice-changes}
+use Rattle.lifting.proofs.Outside.{thrice_changes}
 use Rattle.lifting.proofs.told.thrice_told.Statement.{statement}
 use Rattle.lifting.proofs.told.thrice_told.Tie as tie
 
@@ -16,7 +16,7 @@ returns c6 =
     let f = c1.before.ranges in
     let t = c1.before.args.tell in (
       simp (c3.add-told2.ensures.0, c1.add-told.ensures.0, again, to_z-of_z w32 _ f.a) (three c1.before.args.a),
-      simp (c3.add-told2.ensures.1, c1.add-told.ensures.0, c1.add-told.ensures.1, again, to_z-of_z w32 _ f.a) (sym (and-or_distrib_left t _ _) ∙ ap (λ z. t && z) (thrice-changes c1.before.args.a)),
+      simp (c3.add-told2.ensures.1, c1.add-told.ensures.0, c1.add-told.ensures.1, again, to_z-of_z w32 _ f.a) (sym (and-or_distrib_left t _ _) ∙ ap (λ z. t && z) (thrice_changes c1.before.args.a)),
     )
 
 pub thrice-told-spec : {M : Type 1} → statement M

@@ -7,11 +7,11 @@ use Rattle.picture.proofs.checks.check_low.Tie as tie
 returns : tie.Need-returns
 returns c = simp (ne_eqb _ _ c.if1.true)
 
-returns-2 : tie.Need-returns-2
-returns-2 c = simp (eq-eqb _ _ c.before.if1.false, ne_eqb _ _ c.if2.true)
+returns_2 : tie.Need-returns-2
+returns_2 c = simp (eq-eqb _ _ c.before.if1.false, ne_eqb _ _ c.if2.true)
 
 returns-3 : tie.Need-returns-3
 returns-3 c = simp (eq-eqb _ _ c.before.if1.false, eq-eqb _ _ c.if2.false)
 
 pub check-low-spec : {M : Type 1} → statement M
-check-low-spec = tie.close (tie.spec (λ c. search rules) returns (λ c. search rules) returns-2 returns-3)
+check-low-spec = tie.close (tie.spec (λ c. search rules) returns (λ c. search rules) returns_2 returns-3)

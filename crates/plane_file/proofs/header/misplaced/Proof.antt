@@ -10,8 +10,8 @@ use Rattle.plane_file.proofs.header.misplaced.Tie as tie
 returns : tie.Need-returns
 returns c = simp (ne_eqb _ _ c.if1.true)
 
-returns-2 : tie.Need-returns-2
-returns-2 c =
+returns_2 : tie.Need-returns-2
+returns_2 c =
     let l = c.before.before in
     simp (eq-eqb _ _ l.before.if1.false, ne_eqb _ _ (λ e. c.if2.true (e ∙ sym l.low-offset.ensures)))
 
@@ -33,4 +33,4 @@ returns-4 c =
     sym (offsets-right a.n.0 a.w l.before.if1.false (e.if2.false ∙ l.low-offset.ensures) (f.if3.false ∙ h.high-offset.ensures) ∙ ap (unlike a.w.total) (sym t.total-bytes.ensures))
 
 pub misplaced-spec : {M : Type 1} → statement M
-misplaced-spec = tie.close (tie.spec returns (λ c κs. search rules) returns-2 (λ c κs. search rules) returns-3 (λ c κs. search rules) returns-4)
+misplaced-spec = tie.close (tie.spec returns (λ c κs. search rules) returns_2 (λ c κs. search rules) returns-3 (λ c κs. search rules) returns-4)

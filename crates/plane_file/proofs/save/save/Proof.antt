@@ -6,10 +6,10 @@ use borrow.Author.Rules.{rules}
 use lib.ListN.{length}
 use Rattle.picture.specs.Sizes.{macroblocks}
 use Rattle.picture.specs.Planes.{Planes, planes}
-use Rattle.picture.specs.Numbers.{settled, planeChecks}
-use Rattle.picture.proofs.CheckLaws.{answers, refused-call, ready-number, ready-sized}
+use Rattle.picture.specs.Numbers.{settled, plane_checks}
+use Rattle.picture.proofs.CheckLaws.{answers, refused_call, ready-number, ready-sized}
 use Rattle.plane_file.specs.Layout.{file}
-use Rattle.plane_file.specs.Numbers.{totalCheck, saveNumber}
+use Rattle.plane_file.specs.Numbers.{total_check, save_number}
 use Rattle.plane_file.proofs.save.save.Statement.{statement}
 use Rattle.plane_file.proofs.save.save.Tie as tie
 
@@ -18,7 +18,7 @@ given s = planes s.args.dc.now s.args.low.now s.args.high.now
 
 -- the checks of the lengths
 abbrev rest : tie.Start → List ℕ
-rest s = planeChecks (macroblocks s.args.size) (given s) ++ totalCheck (macroblocks s.args.size) (length s.args.bytes.now)
+rest s = plane_checks (macroblocks s.args.size) (given s) ++ total_check (macroblocks s.args.size) (length s.args.bytes.now)
 
 abbrev result : tie.Start → List ℕ
 result s = file s.args.mode s.args.size (given s)
@@ -31,17 +31,17 @@ save-sized-requires c κs =
     ready-sized s.args.mode s.args.size (rest s) (sym k.enum_told.given.1 ∙ answers s.args.mode n.check-shape.ensures)
 
 returns : tie.Need-returns
-unfolding saveNumber
+unfolding save_number
 returns c =
     let k = c.before in
     let n = k.before.before in
     let s = n.before.before in
-    let (e, u) = refused-call s.args.mode s.args.size (rest s) (result s) s.args.bytes.now (sym k.number.given.1 ∙ answers s.args.mode n.check-shape.ensures) in
+    let (e, u) = refused_call s.args.mode s.args.size (rest s) (result s) s.args.bytes.now (sym k.number.given.1 ∙ answers s.args.mode n.check-shape.ensures) in
     (e, u ∙ ap (λ (j : ℕ). settled j (result s) s.args.bytes.now) e)
 
-returns-2 : tie.Need-returns-2
-unfolding saveNumber
-returns-2 c =
+returns_2 : tie.Need-returns-2
+unfolding save_number
+returns_2 c =
     let d = c.before.before in
     let k = d.before.before in
     let n = k.before.before in
@@ -50,4 +50,4 @@ returns-2 c =
     (e, d.save-sized.ensures.1 ∙ ap (λ (j : ℕ). settled j (result s) s.args.bytes.now) e)
 
 pub save-spec : {M : Type 1} → statement M
-save-spec = tie.close (tie.spec (λ c κs. search rules) (λ c. search rules) (λ c. search rules) save-sized-requires returns (λ c. search rules) returns-2)
+save-spec = tie.close (tie.spec (λ c κs. search rules) (λ c. search rules) (λ c. search rules) save-sized-requires returns (λ c. search rules) returns_2)

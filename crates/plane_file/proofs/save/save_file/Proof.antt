@@ -2,7 +2,7 @@
 use mathlib.Core.Path.{◌≡◌, ◌∙◌, ap}
 use borrow.Author.Rules.{rules}
 use Rattle.picture.specs.Planes.{planes}
-use Rattle.plane_file.specs.Layout.{lowOffset, highOffset}
+use Rattle.plane_file.specs.Layout.{low_offset, high_offset}
 use Rattle.plane_file.proofs.Written.{file-written}
 use Rattle.plane_file.proofs.save.save_file.Statement.{statement}
 use Rattle.plane_file.proofs.save.save_file.Tie as tie
@@ -20,7 +20,7 @@ returns c =
     let a = s.args in
     let e = n.macroblocks.ensures.0 in
     file-written a.mode a.size (planes a.dc.now a.low.now a.high.now) a.bytes.now s.requires.1.0 s.requires.1.1
-    (l.low-offset.ensures ∙ ap lowOffset e) (h.high-offset.ensures ∙ ap highOffset e) p0.save-header.ensures p1.save-plane.ensures p2.save-plane2.ensures p3.save-plane3.ensures
+    (l.low-offset.ensures ∙ ap low_offset e) (h.high-offset.ensures ∙ ap high_offset e) p0.save-header.ensures p1.save-plane.ensures p2.save-plane2.ensures p3.save-plane3.ensures
 
 pub save-file-spec : {M : Type 1} → statement M
 save-file-spec =

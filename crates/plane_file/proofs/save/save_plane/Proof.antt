@@ -8,7 +8,7 @@ use lib.ListN.{length, get_or}
 use borrow.Author.Rules.{rules}
 use Rattle.lifting.specs.Wrap.{low32}
 use Rattle.lifting.proofs.Bits.{back}
-use Rattle.plane_file.proofs.Parts.{Written, none_written, number-written, plane-written}
+use Rattle.plane_file.proofs.Parts.{Written, none_written, number-written, plane_written}
 use Rattle.plane_file.proofs.save.save_plane.Statement.{statement}
 use Rattle.plane_file.proofs.save.save_plane.Tie as tie
 
@@ -39,7 +39,7 @@ returns : tie.Need-returns invariant-loop decreases-loop
 returns c =
     let c1 = c.before in
     let a = c1.before.before.args in
-    plane-written a.plane.now a.bytes.now a.at c1.loop.i (omega arith) c1.loop.invariant.2
+    plane_written a.plane.now a.bytes.now a.at c1.loop.i (omega arith) c1.loop.invariant.2
 
 pub save-plane-spec : {M : Type 1} → statement M
 save-plane-spec =

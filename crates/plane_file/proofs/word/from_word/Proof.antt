@@ -27,8 +27,8 @@ cast-result-3 c = rw (wide c, to_z-of_z w64 _ (widen (lowered c).small)) (lowere
 returns : tie.Need-returns
 returns c = sym (wrap-word _ c.before.ranges.x.fits)
 
-returns-2 : tie.Need-returns-2
-returns-2 c = rw (wide c, to_z-of_z w64 _ (widen (lowered c).small), to_z-of_z w32 _ (lowered c).small) (sym (lowered c).same)
+returns_2 : tie.Need-returns-2
+returns_2 c = rw (wide c, to_z-of_z w64 _ (widen (lowered c).small), to_z-of_z w32 _ (lowered c).small) (sym (lowered c).same)
 
 pub from-word-spec : {M : Type 1} → statement M
-from-word-spec = tie.close (tie.spec (λ c. search rules) (λ c. search rules) sub-result cast-result-3 returns returns-2)
+from-word-spec = tie.close (tie.spec (λ c. search rules) (λ c. search rules) sub-result cast-result-3 returns returns_2)

@@ -2,7 +2,7 @@
 use native.Mathlib.Omega.{arith}
 use lib.ListN.{length-set}
 use borrow.Author.Rules.{rules}
-use Rattle.plane_file.proofs.Parts.{word-stored}
+use Rattle.plane_file.proofs.Parts.{word_stored}
 use Rattle.plane_file.proofs.word.put_word.Statement.{statement}
 use Rattle.plane_file.proofs.word.put_word.Tie as tie
 
@@ -12,7 +12,7 @@ returns c =
     let c2 = c1.before in
     let c3 = c2.before in
     let a = c3.before.before.args in
-    word-stored a.bytes.now a.at a.x c3.before.before.requires c3.low_byte.ensures c2.low-byte2.ensures c1.low-byte3.ensures c.low-byte4.ensures
+    word_stored a.bytes.now a.at a.x c3.before.before.requires c3.low_byte.ensures c2.low-byte2.ensures c1.low-byte3.ensures c.low-byte4.ensures
 
 pub put-word-spec : {M : Type 1} → statement M
 put-word-spec =

@@ -30,8 +30,8 @@ cast-result-3 c = rw (to_z-of_z w32 _ c.before.ranges.x, kept c) (tt, record { f
 returns : tie.Need-returns
 returns c = rw (wide _ c.before.ranges.x, raised c, to_z-of_z w64 _ (low_wide c.before.args.x))
 
-returns-2 : tie.Need-returns-2
-returns-2 c = rw (to_z-of_z w32 _ c.before.ranges.x) (ap nat_abs (kept c))
+returns_2 : tie.Need-returns-2
+returns_2 c = rw (to_z-of_z w32 _ c.before.ranges.x) (ap nat_abs (kept c))
 
 pub to-word-spec : {M : Type 1} → statement M
-to-word-spec = tie.close (tie.spec cast-result add-result cast-result-2 cast-result-3 returns returns-2)
+to-word-spec = tie.close (tie.spec cast-result add-result cast-result-2 cast-result-3 returns returns_2)

@@ -1,11 +1,11 @@
 -- Four bytes joined are the word, by its definition.
 use borrow.Author.Rules.{rules}
-use Rattle.plane_file.specs.Words.{wordAt}
+use Rattle.plane_file.specs.Words.{word_at}
 use Rattle.plane_file.proofs.word.word_at.Statement.{statement}
 use Rattle.plane_file.proofs.word.word_at.Tie as tie
 
 returns : tie.Need-returns
-unfolding wordAt
+unfolding word_at
 returns c = c.joined.ensures
 
 pub word-at-spec : {M : Type 1} → statement M

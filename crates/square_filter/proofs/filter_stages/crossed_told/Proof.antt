@@ -2,7 +2,7 @@
 use mathlib.Core.Path.{ap}
 use Rattle.lifting.specs.Program.{get, put}
 use Rattle.lifting.proofs.Traces.{◌▸◌, at-end, ran}
-use Rattle.figures.specs.Pieces.{crossedStage}
+use Rattle.figures.specs.Pieces.{crossed_stage}
 use Rattle.blocks.specs.Quads.{mirrored}
 use Rattle.figures.proofs.Parts.{told, pair, four}
 use Rattle.blocks.proofs.Blocks.{quads}
@@ -10,7 +10,7 @@ use Rattle.square_filter.proofs.filter_stages.crossed_told.Statement.{statement}
 use Rattle.square_filter.proofs.filter_stages.crossed_told.Tie as tie
 
 returns : tie.Need-returns
-unfolding get put crossedStage mirrored
+unfolding get put crossed_stage mirrored
 returns c63 =
     let c52 = c63.before.before.before.before.before.before.before.before.before.before.before in
     let c51 = c52.before in
@@ -37,7 +37,7 @@ returns c63 =
     let a = c5.before.before.before.before.before.args in
     let v = a.v in
     let read = ap mirrored (quads v (told _ c6.struct-told2.given) (told _ c5.struct_told.given) (told _ c10.struct-told4.given) (told _ c9.struct-told3.given)) in
-    ran a.tell crossedStage _ read
+    ran a.tell crossed_stage _ read
     ((pair c45.struct-told23.given c7.rotation-told.ensures.0, c7.rotation-told.ensures.1)
     ▸ (pair c51.struct-told29.given c11.rotation-told2.ensures.0, c11.rotation-told2.ensures.1)
     ▸ (pair c44.struct-told22.given c15.rotation-told3.ensures.0, c15.rotation-told3.ensures.1)

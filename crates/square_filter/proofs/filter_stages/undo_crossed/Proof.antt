@@ -2,8 +2,8 @@
 use mathlib.Core.Path.{ap, refl}
 use mathlib.Core.Bool.{true}
 use Rattle.lifting.specs.Program.{get, put}
-use Rattle.lifting.proofs.Traces.{◌◂◌, at-start, undone}
-use Rattle.figures.specs.Pieces.{crossedStage}
+use Rattle.lifting.proofs.Traces.{◌◂◌, at_start, undone}
+use Rattle.figures.specs.Pieces.{crossed_stage}
 use Rattle.blocks.specs.Quads.{mirrored}
 use Rattle.figures.proofs.Parts.{told, pair, four}
 use Rattle.blocks.proofs.Blocks.{quads}
@@ -11,7 +11,7 @@ use Rattle.square_filter.proofs.filter_stages.undo_crossed.Statement.{statement}
 use Rattle.square_filter.proofs.filter_stages.undo_crossed.Tie as tie
 
 returns : tie.Need-returns
-unfolding get put crossedStage mirrored
+unfolding get put crossed_stage mirrored
 returns c45 =
     let c44 = c45.before in
     let c43 = c44.before in
@@ -58,8 +58,8 @@ returns c45 =
     let c2 = c3.before in
     let c1 = c2.before in
     let v = c1.before.before.before.before.before.args.v in
-    let done = undone true crossedStage _ (ap mirrored (quads v (told _ c10.struct-told7.given) (told _ c7.struct-told5.given) (told _ c4.struct-told3.given) (told _ c1.struct_told.given)))
-    (at-start
+    let done = undone true crossed_stage _ (ap mirrored (quads v (told _ c10.struct-told7.given) (told _ c7.struct-told5.given) (told _ c4.struct-told3.given) (told _ c1.struct_told.given)))
+    (at_start
     ◂ (pair c13.struct-told9.given c3.undo-scale.ensures, refl)
     ◂ (pair c14.struct-told10.given c6.undo-scale2.ensures, refl)
     ◂ (pair c15.struct-told11.given c9.undo-scale3.ensures, refl)

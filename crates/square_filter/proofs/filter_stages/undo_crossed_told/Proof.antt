@@ -2,8 +2,8 @@
 use mathlib.Core.Path.{ap}
 use mathlib.Core.Bool.{true}
 use Rattle.lifting.specs.Program.{get, put}
-use Rattle.lifting.proofs.Traces.{◌◂◌, at-start, undone}
-use Rattle.figures.specs.Pieces.{crossedStage}
+use Rattle.lifting.proofs.Traces.{◌◂◌, at_start, undone}
+use Rattle.figures.specs.Pieces.{crossed_stage}
 use Rattle.blocks.specs.Quads.{mirrored}
 use Rattle.figures.proofs.Parts.{told, pair, four}
 use Rattle.blocks.proofs.Blocks.{quads}
@@ -11,7 +11,7 @@ use Rattle.square_filter.proofs.filter_stages.undo_crossed_told.Statement.{state
 use Rattle.square_filter.proofs.filter_stages.undo_crossed_told.Tie as tie
 
 returns : tie.Need-returns
-unfolding get put crossedStage mirrored
+unfolding get put crossed_stage mirrored
 returns c67 =
     let c53 = c67.before.before.before.before.before.before.before.before.before.before.before.before.before.before in
     let c48 = c53.before.before.before.before.before in
@@ -37,8 +37,8 @@ returns c67 =
     let c5 = c7.before.before in
     let v = c5.before.before.before.before.before.args.v in
     let read = ap mirrored (quads v (told _ c17.struct-told7.given) (told _ c13.struct-told5.given) (told _ c9.struct-told3.given) (told _ c5.struct_told.given)) in
-    undone true crossedStage _ read
-    (at-start
+    undone true crossed_stage _ read
+    (at_start
     ◂ (pair c21.struct-told9.given c7.undo-scale-told.ensures.0, c7.undo-scale-told.ensures.1)
     ◂ (pair c22.struct-told10.given c11.undo-scale-told2.ensures.0, c11.undo-scale-told2.ensures.1)
     ◂ (pair c23.struct-told11.given c15.undo-scale-told3.ensures.0, c15.undo-scale-told3.ensures.1)

@@ -3,12 +3,12 @@ use Prim.Native.Nat.{◌-◌}
 use native.Mathlib.Omega.{arith}
 use borrow.Author.Rules.{rules}
 use lib.Count.{leading_le}
-use Rattle.step_sizes.proofs.Reciprocal.{Works, every-step-works, divides}
+use Rattle.step_sizes.proofs.Reciprocal.{Works, every_step_works, divides}
 use Rattle.step_sizes.proofs.division.divisor_of.Statement.{statement}
 use Rattle.step_sizes.proofs.division.divisor_of.Tie as tie
 
 fit : (c : tie.After-step) → Works c.step.result
-fit c = rw c.step.ensures (every-step-works c.before.args.index c.before.requires)
+fit c = rw c.step.ensures (every_step_works c.before.args.index c.before.requires)
 
 returns : tie.Need-returns
 returns c =

@@ -11,7 +11,7 @@ use mir.Syntax.{w32, w64}
 use mir.Facts.{to_z_pos}
 use mir.ValLaws.{to_z-of_z}
 use Rattle.lifting.proofs.Bits.{widen}
-use Rattle.step_sizes.proofs.Signs.{negative_fits, top, outside-rounded}
+use Rattle.step_sizes.proofs.Signs.{negative_fits, top, outside_rounded}
 use Rattle.step_sizes.proofs.nearest.round_limits.Statement.{statement}
 use Rattle.step_sizes.proofs.nearest.round_limits.Tie as tie
 
@@ -44,7 +44,7 @@ returns c =
         to_z-of_z w32 (neg_ℤ (pos (top 2147483648 s.args.step))) (least_fits c),
         to_z_pos w32 {n = 2147483647 - c.excess2.result} (omega (arith, (small c).1)),
         c.excess2.ensures,
-      ) (outside-rounded s.args.step s.requires.0 x f);
+      ) (outside_rounded s.args.step s.requires.0 x f);
     }
 
 pub round-limits-spec : {M : Type 1} → statement M

@@ -11,7 +11,7 @@ use mir.Facts.{to_z_pos}
 use mir.ValLaws.{to_z-of_z}
 use Rattle.lifting.specs.Wrap.{wrap}
 use Rattle.lifting.proofs.Bits.{back, Sum, to64}
-use Rattle.step_sizes.proofs.Signs.{negated, magnitude-of, negative-product, other-product}
+use Rattle.step_sizes.proofs.Signs.{negated, magnitude-of, negative_product, other_product}
 use Rattle.step_sizes.proofs.nearest.round_number.Statement.{statement}
 use Rattle.step_sizes.proofs.nearest.round_number.Tie as tie
 
@@ -44,12 +44,12 @@ held c = to_z_pos w64 {n = c.multiple.result} (omega (arith, small c))
 turned : (c : tie.After-multiple) → pos 0 -ℤ to_z w64 c.multiple.result ≡ neg_ℤ (pos c.multiple.result)
 turned c = rw (held c) (negated (pos c.multiple.result))
 
-negative-small : (p : ℕ) → p < 6442450944 → Sum (neg_ℤ (pos p))
-negative-small zero h = record { near = omega arith }
-negative-small (suc p) h = record { near = omega arith }
+negative_small : (p : ℕ) → p < 6442450944 → Sum (neg_ℤ (pos p))
+negative_small zero h = record { near = omega arith }
+negative_small (suc p) h = record { near = omega arith }
 
 negative : (c : tie.After-multiple) → Sum (neg_ℤ (pos c.multiple.result))
-negative c = negative-small c.multiple.result (small c)
+negative c = negative_small c.multiple.result (small c)
 
 sub-reduce : tie.Need-overflow-sub-reduce
 sub-reduce c = rw (turned c.before) (to64 (negative c.before))
@@ -66,15 +66,15 @@ returns c =
     let m = t.before in
     let s = m.before.before.before in
     let below = rw (to_z-of_z w32 s.args.x s.ranges.x) at t.if1.true in
-    back c.reduce.type-inv ∙ (rw (turned m, to_z-of_z w64 _ (to64 (negative m)), product m) at c.reduce.ensures) ∙ ap wrap (sym (negative-product s.args.by.step s.args.x below))
+    back c.reduce.type-inv ∙ (rw (turned m, to_z-of_z w64 _ (to64 (negative m)), product m) at c.reduce.ensures) ∙ ap wrap (sym (negative_product s.args.by.step s.args.x below))
 
-returns-2 : tie.Need-returns-2
-returns-2 c =
+returns_2 : tie.Need-returns-2
+returns_2 c =
     let e = c.before in
     let m = e.before in
     let s = m.before.before.before in
     let not-below = rw (to_z-of_z w32 s.args.x s.ranges.x) at e.if1.false in
-    back c.reduce2.type-inv ∙ (rw (held m, product m) at c.reduce2.ensures) ∙ ap wrap (sym (other-product s.args.by.step s.args.x not-below))
+    back c.reduce2.type-inv ∙ (rw (held m, product m) at c.reduce2.ensures) ∙ ap wrap (sym (other_product s.args.by.step s.args.x not-below))
 
 pub round-number-spec : {M : Type 1} → statement M
-round-number-spec = tie.close (tie.spec (λ c κs. search rules) add-multiple multiple-requires (λ c. search rules) sub-reduce reduce-requires reduce-requires-2 returns returns-2)
+round-number-spec = tie.close (tie.spec (λ c κs. search rules) add-multiple multiple-requires (λ c. search rules) sub-reduce reduce-requires reduce-requires-2 returns returns_2)

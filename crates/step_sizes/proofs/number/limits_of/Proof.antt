@@ -10,7 +10,7 @@ use mir.Syntax.{w32, w64}
 use mir.Facts.{to_z_pos}
 use mir.ValLaws.{to_z-of_z}
 use Rattle.lifting.proofs.Bits.{widen}
-use Rattle.step_sizes.proofs.Signs.{negated, negative_fits, outside-limits}
+use Rattle.step_sizes.proofs.Signs.{negated, negative_fits, outside_limits}
 use Rattle.step_sizes.proofs.number.limits_of.Statement.{statement}
 use Rattle.step_sizes.proofs.number.limits_of.Tie as tie
 
@@ -29,7 +29,7 @@ returns c = record {
     to_z-of_z w64 (neg_ℤ (pos (2147483648 / c.args.step))) (widen (least_fits c)),
     to_z-of_z w32 (neg_ℤ (pos (2147483648 / c.args.step))) (least_fits c),
     to_z_pos w32 {n = 2147483647 / c.args.step} (omega (arith, div-le_self 2147483647 c.args.step)),
-  ) (outside-limits c.args.step c.requires level);
+  ) (outside_limits c.args.step c.requires level);
 }
 
 pub limits-of-spec : {M : Type 1} → statement M

@@ -6,14 +6,14 @@ use mir.Val.{SFits}
 use mir.Syntax.{w32, w64}
 use mir.ValLaws.{to_z-of_z}
 use Rattle.lifting.proofs.Bits.{wide, cast_fits}
-use Rattle.step_sizes.proofs.Signs.{negated, negative-magnitude, other-magnitude, magnitude-most}
+use Rattle.step_sizes.proofs.Signs.{negated, negative_magnitude, other_magnitude, magnitude-most}
 use Rattle.step_sizes.proofs.number.magnitude.Statement.{statement}
 use Rattle.step_sizes.proofs.number.magnitude.Tie as tie
 
 turned : (c : tie.Then1) → pos 0 -ℤ c.before.args.x ≡ pos (nat_abs c.before.args.x)
 turned c =
     let x = c.before.args.x in
-    negated x ∙ negative-magnitude x (rw (to_z-of_z w32 x c.before.ranges.x) at c.if1.true)
+    negated x ∙ negative_magnitude x (rw (to_z-of_z w32 x c.before.ranges.x) at c.if1.true)
 
 turned-fits : (c : tie.Then1) → SFits w64 (pos (nat_abs c.before.args.x))
 turned-fits c = record { sfits = omega (arith, magnitude-most _ c.before.ranges.x) }
@@ -29,7 +29,7 @@ cast-result-2 c =
     rw (wide _ c.before.ranges.x, turned c, to_z-of_z w64 _ (turned-fits c)) (tt, record { fits = omega (arith, magnitude-most _ c.before.ranges.x) })
 
 kept : (c : tie.Else1) → c.before.args.x ≡ pos (nat_abs c.before.args.x)
-kept c = let x = c.before.args.x in other-magnitude x (rw (to_z-of_z w32 x c.before.ranges.x) at c.if1.false)
+kept c = let x = c.before.args.x in other_magnitude x (rw (to_z-of_z w32 x c.before.ranges.x) at c.if1.false)
 
 cast-result-3 : tie.Need-overflow-cast-result-3
 cast-result-3 c = rw (to_z-of_z w32 _ c.before.ranges.x, kept c) (tt, record { fits = omega (arith, magnitude-most _ c.before.ranges.x) })
@@ -37,8 +37,8 @@ cast-result-3 c = rw (to_z-of_z w32 _ c.before.ranges.x, kept c) (tt, record { f
 returns : tie.Need-returns
 returns c = rw (wide _ c.before.ranges.x, turned c, to_z-of_z w64 _ (turned-fits c))
 
-returns-2 : tie.Need-returns-2
-returns-2 c = rw (to_z-of_z w32 _ c.before.ranges.x)
+returns_2 : tie.Need-returns-2
+returns_2 c = rw (to_z-of_z w32 _ c.before.ranges.x)
 
 pub magnitude-spec : {M : Type 1} → statement M
-magnitude-spec = tie.close (tie.spec cast-result sub-result cast-result-2 cast-result-3 returns returns-2)
+magnitude-spec = tie.close (tie.spec cast-result sub-result cast-result-2 cast-result-3 returns returns_2)

@@ -7,7 +7,7 @@ use mir.Syntax.{w32}
 use mir.Facts.{to_z_pos}
 use mir.ValLaws.{to_z-of_z}
 use Rattle.step_sizes.specs.Levels.{restored}
-use Rattle.step_sizes.proofs.Signs.{in-range}
+use Rattle.step_sizes.proofs.Signs.{in_range}
 use Rattle.step_sizes.proofs.number.restore_number.Statement.{statement}
 use Rattle.step_sizes.proofs.number.restore_number.Tie as tie
 
@@ -16,10 +16,10 @@ kept : (c : tie.Start) → to_z w32 c.args.step ≡ pos c.args.step
 kept c = to_z_pos w32 (omega (arith, c.requires.0))
 
 mul-result : tie.Need-overflow-mul-result
-mul-result c = rw (to_z-of_z w32 c.args.level c.ranges.level, kept c) (in-range (restored c.args.step c.args.level) c.requires.1)
+mul-result c = rw (to_z-of_z w32 c.args.level c.ranges.level, kept c) (in_range (restored c.args.step c.args.level) c.requires.1)
 
 returns : tie.Need-returns
-returns c = rw (to_z-of_z w32 c.args.level c.ranges.level, kept c) (to_z-of_z w32 (restored c.args.step c.args.level) (in-range (restored c.args.step c.args.level) c.requires.1))
+returns c = rw (to_z-of_z w32 c.args.level c.ranges.level, kept c) (to_z-of_z w32 (restored c.args.step c.args.level) (in_range (restored c.args.step c.args.level) c.requires.1))
 
 pub restore-number-spec : {M : Type 1} → statement M
 restore-number-spec = tie.close (tie.spec (λ c. record { sfits = omega (arith, c.requires.0) }) mul-result returns)

@@ -9,7 +9,7 @@ use mir.Facts.{to_z_pos}
 use mir.ValLaws.{to_z-of_z}
 use Rattle.lifting.proofs.Bits.{widen}
 use Rattle.step_sizes.specs.Levels.{signed}
-use Rattle.step_sizes.proofs.Signs.{negated, negative-sign, other_sign, sign_fits}
+use Rattle.step_sizes.proofs.Signs.{negated, negative_sign, other_sign, sign_fits}
 use Rattle.step_sizes.proofs.number.with_sign.Statement.{statement}
 use Rattle.step_sizes.proofs.number.with_sign.Tie as tie
 
@@ -18,7 +18,7 @@ turned : (c : tie.Then1) → let a = c.before.args in pos 0 -ℤ to_z w64 a.magn
 turned c =
     let s = c.before in
     rw (to_z_pos w64 {n = s.args.magnitude} (omega (arith, s.ranges.magnitude.fits)))
-    (negated (pos s.args.magnitude) ∙ sym (negative-sign s.args.x s.args.magnitude (rw (to_z-of_z w32 s.args.x s.ranges.x) at c.if1.true)))
+    (negated (pos s.args.magnitude) ∙ sym (negative_sign s.args.x s.args.magnitude (rw (to_z-of_z w32 s.args.x s.ranges.x) at c.if1.true)))
 
 small : (c : tie.Start) → SFits w32 (signed c.args.x c.args.magnitude)
 small c = sign_fits _ _ c.ranges.x c.requires
@@ -38,8 +38,8 @@ cast-result-3 c = rw (← kept c) (small c.before)
 returns : tie.Need-returns
 returns c = rw (turned c, to_z-of_z w64 _ (widen (small c.before)), to_z-of_z w32 _ (small c.before))
 
-returns-2 : tie.Need-returns-2
-returns-2 c = rw (kept c) (to_z_pos w32 (rw (kept c) at (small c.before)).sfits)
+returns_2 : tie.Need-returns-2
+returns_2 c = rw (kept c) (to_z_pos w32 (rw (kept c) at (small c.before)).sfits)
 
 pub with-sign-spec : {M : Type 1} → statement M
-with-sign-spec = tie.close (tie.spec (λ c. search rules) sub-result cast-result-2 cast-result-3 returns returns-2)
+with-sign-spec = tie.close (tie.spec (λ c. search rules) sub-result cast-result-2 cast-result-3 returns returns_2)

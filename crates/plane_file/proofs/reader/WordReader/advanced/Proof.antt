@@ -88,19 +88,19 @@ module _ {M : Type 1} {𝓤 : Ura M} (𝓛 : Logic 𝓤) (mem : Memory → SProp
 module _ {M : Type 1} {𝓤 : Ura M} (𝓛 : Logic 𝓤) (mem : Memory → SProp 𝓤) (run : Routine → Fun 𝓤) where
   open 𝓛 use {H}
 
-  advanced-walks : (C : Calls 𝓤 H) (Λ : Loops 𝓤 H) → Walks 𝓛 advanced.ended stayed (WpFn 𝓤 H C Λ code.function) (advanced.clauses 𝓛 mem run)
-  advanced-walks C Λ = walked 𝓛 advanced.ended stayed (advanced.clauses 𝓛 mem run) (WpFn 𝓤 H C Λ code.function) (λ κs. (LL.vals (T.the_type (named_lft 1 0 tt κs)) (T'.the_laws (named_lft 1 0 tt κs)), tt)) (λ κs. (LL.tells (T.the_type (named_lft 1 0 tt κs)) (T'.the_laws (named_lft 1 0 tt κs)), tt))
+  advanced_walks : (C : Calls 𝓤 H) (Λ : Loops 𝓤 H) → Walks 𝓛 advanced.ended stayed (WpFn 𝓤 H C Λ code.function) (advanced.clauses 𝓛 mem run)
+  advanced_walks C Λ = walked 𝓛 advanced.ended stayed (advanced.clauses 𝓛 mem run) (WpFn 𝓤 H C Λ code.function) (λ κs. (LL.vals (T.the_type (named_lft 1 0 tt κs)) (T'.the_laws (named_lft 1 0 tt κs)), tt)) (λ κs. (LL.tells (T.the_type (named_lft 1 0 tt κs)) (T'.the_laws (named_lft 1 0 tt κs)), tt))
       (λ κs qs bounds a g are. needs 𝓤 (a.0.at + 4 ≤ length a.0.bytes.now) _ (λ within.
       let wt = ((LL.lawful (T.the_type (named_lft 1 0 tt κs)) (T'.the_laws (named_lft 1 0 tt κs)) 𝓛).typed a.0 _ are.0).0 in
       walk 𝓛 mem run κs.0 qs.0 a.0 C Λ wt (omega (arith, within, wt.1.0.1.0.fits))))
 
-advanced-meets : {M : Type 1} {𝓤 : Ura M} (𝓛 : Logic 𝓤) → (mem : Memory → SProp 𝓤) (run : Routine → Fun 𝓤) (𝓣 : Tables 𝓤 𝓛.H)
+advanced_meets : {M : Type 1} {𝓤 : Ura M} (𝓛 : Logic 𝓤) → (mem : Memory → SProp 𝓤) (run : Routine → Fun 𝓤) (𝓣 : Tables 𝓤 𝓛.H)
     → Meets 𝓛 advanced.signature (WpFn 𝓤 𝓛.H 𝓣.C 𝓣.Λ code.function) (advanced.spec 𝓛 mem run)
-advanced-meets {𝓤 = 𝓤} 𝓛 mem run 𝓣 = walk_Meets 𝓛 advanced.ended stayed (Goes-none 𝓛 1 B yes (λ κs x f. refl), tt) (advanced.clauses 𝓛 mem run) (WpFn 𝓤 𝓛.H 𝓣.C 𝓣.Λ code.function) (WpFn-mono 𝓤 𝓛.H 𝓛.laws 𝓣 code.function) (advanced-walks 𝓛 mem run 𝓣.C 𝓣.Λ)
+advanced_meets {𝓤 = 𝓤} 𝓛 mem run 𝓣 = walk_Meets 𝓛 advanced.ended stayed (Goes-none 𝓛 1 B yes (λ κs x f. refl), tt) (advanced.clauses 𝓛 mem run) (WpFn 𝓤 𝓛.H 𝓣.C 𝓣.Λ code.function) (WpFn-mono 𝓤 𝓛.H 𝓛.laws 𝓣 code.function) (advanced_walks 𝓛 mem run 𝓣.C 𝓣.Λ)
 
 pub advanced-spec : {M : Type 1} → stated.statement M
 unfolding code.routine tables_of
 advanced-spec 𝓤 𝓛 𝓜 𝓡 =
     entered 𝓤 𝓛.H (triple_of 𝓛 advanced.signature (advanced.spec 𝓛 𝓜.mem 𝓡.run))
     (tables 𝓤 𝓛.H 𝓜 𝓡 code.env).C (tables 𝓤 𝓛.H 𝓜 𝓡 code.env).Λ #advanced code.function (code.unfolded 𝓤 𝓛.H 𝓜 𝓡)
-    (advanced-meets 𝓛 𝓜.mem 𝓡.run (tables_of 𝓤 𝓛.H 𝓜 (tables 𝓤 𝓛.H 𝓜 𝓡 code.env)))
+    (advanced_meets 𝓛 𝓜.mem 𝓡.run (tables_of 𝓤 𝓛.H 𝓜 (tables 𝓤 𝓛.H 𝓜 𝓡 code.env)))

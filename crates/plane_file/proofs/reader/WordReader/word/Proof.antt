@@ -40,7 +40,7 @@ use denote.Triple.Table.{entered, cited}
 use denote.Triple.Walked.{says, needs, Stays, stay_none, walk_of, Goes-none, Walks, ends_at, walked, walk_Meets}
 use denote.Exit.{yes}
 use denote.Triple.Clauses.{ensured, lasts}
-use Rattle.plane_file.specs.Words.{wordAt}
+use Rattle.plane_file.specs.Words.{word_at}
 use Rattle.plane_file.specs.declared.reader.WordReader.{WordReader}
 use Rattle.plane_file.specs.contracts.reader.WordReader as T
 use Rattle.plane_file.proofs.reader.WordReader.TheLaws as T'
@@ -76,7 +76,7 @@ module _ {M : Type 1} {𝓤 : Ura M} (𝓛 : Logic 𝓤) (mem : Memory → SProp
   v = slice_val d.bytes.ref_ptr (length d.bytes.now)
 
   abbrev found : ℕ
-  found = wordAt d.bytes.now d.at
+  found = word_at d.bytes.now d.at
 
   abbrev Post : Val → SProp 𝓤
   Post = (walk_of 𝓛 word.ended stayed (word.clauses 𝓛 mem run)).post (((κ, tt), (q, tt), tt, (d, tt), (mach ∷ [], tt)), tt)
@@ -144,21 +144,21 @@ module _ {M : Type 1} {𝓤 : Ura M} (𝓛 : Logic 𝓤) (mem : Memory → SProp
 module _ {M : Type 1} {𝓤 : Ura M} (𝓛 : Logic 𝓤) (mem : Memory → SProp 𝓤) (run : Routine → Fun 𝓤) where
   open 𝓛 use {H}
 
-  word-walks : (C : Calls 𝓤 H) (Λ : Loops 𝓤 H) → FmC 𝓤 H 𝓛.laws C → Triple 𝓤 (C #word-at) (WordAt 𝓛 mem run)
+  word_walks : (C : Calls 𝓤 H) (Λ : Loops 𝓤 H) → FmC 𝓤 H 𝓛.laws C → Triple 𝓤 (C #word-at) (WordAt 𝓛 mem run)
       → Walks 𝓛 word.ended stayed (WpFn 𝓤 H C Λ code.function) (word.clauses 𝓛 mem run)
-  word-walks C Λ fm known = walked 𝓛 word.ended stayed (word.clauses 𝓛 mem run) (WpFn 𝓤 H C Λ code.function) (λ κs. (LL.vals (T.the_type (named_lft 1 0 tt κs)) (T'.the_laws (named_lft 1 0 tt κs)), tt)) (λ κs. (LL.tells (T.the_type (named_lft 1 0 tt κs)) (T'.the_laws (named_lft 1 0 tt κs)), tt))
+  word_walks C Λ fm known = walked 𝓛 word.ended stayed (word.clauses 𝓛 mem run) (WpFn 𝓤 H C Λ code.function) (λ κs. (LL.vals (T.the_type (named_lft 1 0 tt κs)) (T'.the_laws (named_lft 1 0 tt κs)), tt)) (λ κs. (LL.tells (T.the_type (named_lft 1 0 tt κs)) (T'.the_laws (named_lft 1 0 tt κs)), tt))
       (λ κs qs bounds a g are. needs 𝓤 (a.0.at + 4 ≤ length a.0.bytes.now) _ (λ within. walk 𝓛 mem run κs.0 qs.0 a.0 C Λ fm known ((LL.lawful (T.the_type (named_lft 1 0 tt κs)) (T'.the_laws (named_lft 1 0 tt κs)) 𝓛).typed a.0 _ are.0).0 within))
 
-word-meets : {M : Type 1} {𝓤 : Ura M} (𝓛 : Logic 𝓤) (mem : Memory → SProp 𝓤) (run : Routine → Fun 𝓤) (𝓣 : Tables 𝓤 𝓛.H)
+word_meets : {M : Type 1} {𝓤 : Ura M} (𝓛 : Logic 𝓤) (mem : Memory → SProp 𝓤) (run : Routine → Fun 𝓤) (𝓣 : Tables 𝓤 𝓛.H)
     → Triple 𝓤 (𝓣.C #word-at) (WordAt 𝓛 mem run)
     → Meets 𝓛 word.signature (WpFn 𝓤 𝓛.H 𝓣.C 𝓣.Λ code.function) (word.spec 𝓛 mem run)
-word-meets {𝓤 = 𝓤} 𝓛 mem run 𝓣 known-word-at = walk_Meets 𝓛 word.ended stayed (Goes-none 𝓛 1 B yes (λ κs x f. refl), tt) (word.clauses 𝓛 mem run) (WpFn 𝓤 𝓛.H 𝓣.C 𝓣.Λ code.function) (WpFn-mono 𝓤 𝓛.H 𝓛.laws 𝓣 code.function)
-    (word-walks 𝓛 mem run 𝓣.C 𝓣.Λ (fm_of 𝓤 𝓛.H 𝓛.laws 𝓣) known-word-at)
+word_meets {𝓤 = 𝓤} 𝓛 mem run 𝓣 known-word-at = walk_Meets 𝓛 word.ended stayed (Goes-none 𝓛 1 B yes (λ κs x f. refl), tt) (word.clauses 𝓛 mem run) (WpFn 𝓤 𝓛.H 𝓣.C 𝓣.Λ code.function) (WpFn-mono 𝓤 𝓛.H 𝓛.laws 𝓣 code.function)
+    (word_walks 𝓛 mem run 𝓣.C 𝓣.Λ (fm_of 𝓤 𝓛.H 𝓛.laws 𝓣) known-word-at)
 
 pub word-spec : {M : Type 1} → stated.statement M
 unfolding code.routine tables_of
 word-spec 𝓤 𝓛 𝓜 𝓡 =
     entered 𝓤 𝓛.H (triple_of 𝓛 word.signature (word.spec 𝓛 𝓜.mem 𝓡.run))
     (tables 𝓤 𝓛.H 𝓜 𝓡 code.env).C (tables 𝓤 𝓛.H 𝓜 𝓡 code.env).Λ #word code.function (code.unfolded 𝓤 𝓛.H 𝓜 𝓡)
-    (word-meets 𝓛 𝓜.mem 𝓡.run (tables_of 𝓤 𝓛.H 𝓜 (tables 𝓤 𝓛.H 𝓜 𝓡 code.env))
+    (word_meets 𝓛 𝓜.mem 𝓡.run (tables_of 𝓤 𝓛.H 𝓜 (tables 𝓤 𝓛.H 𝓜 𝓡 code.env))
     (cited 𝓤 𝓛.H (WordAt 𝓛 𝓜.mem 𝓡.run) 𝓜 𝓡 code.env #word-at word-at-def.routine code.calls-plane-file::word::word-at (word-at-thm.met 𝓤 𝓛 𝓜 𝓡)))
