@@ -9,7 +9,7 @@ use picture::counts::Area;
 use picture::refusals::STEP_INDEX;
 
 #[repr(C)]
-#[derive(Drop)]
+#[derive(Clone, Copy)]
 pub struct Steps {
     pub dc: u32,
     pub low: u32,

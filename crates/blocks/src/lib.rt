@@ -1,4 +1,6 @@
 // Blocks of four rows of four numbers as four fours, and back.
+#![tactic(auto)]
+
 pub mod stage; // stage.rt: the stage that Figures 4.8 and 4.14 share
 
 ghost use Rattle.std.specs.Prelude.{◌≡◌, [], ◌∷◌, ◌<◌};
@@ -8,7 +10,7 @@ ghost use Rattle.blocks.specs.Quads.{quartered as quarteredList, mirrored as mir
 
 use figures::Four;
 
-#[derive(Drop)]
+#[derive(Clone, Copy)]
 pub struct Quads {
     pub p: Four,
     pub q: Four,
@@ -17,7 +19,7 @@ pub struct Quads {
 }
 
 // The same, with whether a reduction changed a number
-#[derive(Drop)]
+#[derive(Clone, Copy)]
 pub struct ToldQuads {
     pub quads: Quads,
     pub wrapped: bool,

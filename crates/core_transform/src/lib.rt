@@ -1,4 +1,6 @@
 // The core transform of a block of four rows of four numbers (Figure 4.8).
+#![tactic(auto)]
+
 mod core_stages; // core_stages.rt: the first stage of Figure 4.8
 mod tables; // tables.rt: the reorder that begins Figure 4.8, and its undoing
 

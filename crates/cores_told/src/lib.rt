@@ -1,5 +1,7 @@
 // Whether a core transform of a level wraps, told from the coefficients: each that has a large number is judged on its own, and nothing is stored.
 // The walk ends at the first that wraps.
+#![tactic(auto)]
+
 ghost use Rattle.std.specs.Prelude.{◌≡◌, ◌+◌, ◌*◌, ◌/◌, ◌%◌, ◌<◌, ◌≤◌, length};
 ghost use Rattle.lifting.specs.Program.{at as number};
 ghost use Rattle.lifting.specs.Wraps.{wraps};

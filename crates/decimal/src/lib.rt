@@ -1,4 +1,6 @@
 // Numbers as decimal text in lent bytes.
+#![tactic(auto)]
+
 ghost use Rattle.std.specs.Prelude.{◌≡◌, ◌+◌, ◌≤◌, nat_abs, length};
 ghost use Rattle.decimal.specs.Text.{digits, decimal, row, refused_line, over, written, count};
 

@@ -1,4 +1,6 @@
 // From the bytes of a plane file of at most 16 macroblocks to its samples.
+#![tactic(auto)]
+
 pub mod text; // text.rt: what the program prints
 
 ghost use Rattle.std.specs.Prelude.{◌≡◌, ◌*◌, ◌++◌, length};

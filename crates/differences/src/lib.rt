@@ -1,4 +1,6 @@
 // How far two pictures are apart: one sample, and whether all are within a tolerance.
+#![tactic(auto)]
+
 ghost use Rattle.std.specs.Prelude.{◌≡◌, not, ◌&&◌, ◌+◌, ◌*◌, ◌≤◌, nat_abs, ◌-ℤ◌, length};
 ghost use Rattle.lifting.specs.Tests.{all};
 ghost use Rattle.differences.specs.Near.{near};

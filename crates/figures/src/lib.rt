@@ -1,11 +1,13 @@
 // What operators on two and on four numbers answer. The figures themselves are the definitions in specs/.
-#[derive(Drop)]
+#![tactic(auto)]
+
+#[derive(Clone, Copy)]
 pub struct Pair {
     pub a: i32,
     pub b: i32,
 }
 
-#[derive(Drop)]
+#[derive(Clone, Copy)]
 pub struct Four {
     pub a: i32,
     pub b: i32,
@@ -14,13 +16,13 @@ pub struct Four {
 }
 
 // The same, with whether a reduction changed a number
-#[derive(Drop)]
+#[derive(Clone, Copy)]
 pub struct ToldPair {
     pub pair: Pair,
     pub wrapped: bool,
 }
 
-#[derive(Drop)]
+#[derive(Clone, Copy)]
 pub struct ToldFour {
     pub four: Four,
     pub wrapped: bool,

@@ -1,5 +1,7 @@
 // Whether a filter of a level wrapped, told from what the filters gave, on a grid of p squares across and q down: each is undone on its own numbers, windows
 // only where one of these is large, and nothing is stored. The walk ends at the first that wrapped.
+#![tactic(auto)]
+
 ghost use Rattle.std.specs.Prelude.{◌≡◌, ◌+◌, ◌-◌, ◌*◌, ◌<◌, ◌≤◌, length};
 ghost use Rattle.lifting.specs.Program.{each};
 ghost use Rattle.lifting.specs.Wraps.{undo_wraps};

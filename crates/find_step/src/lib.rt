@@ -1,4 +1,6 @@
 // The call that finds a step: one index for all bands that leaves every sample within a tolerance.
+#![tactic(auto)]
+
 ghost use Rattle.std.specs.Prelude.{◌≡◌, ◌*◌, ◌≤◌, length};
 ghost use Rattle.picture.specs.Sizes.{Sized, macroblocks};
 ghost use Rattle.picture.specs.Planes.{Lengths, planes};
@@ -15,7 +17,7 @@ use tries::{take_zero, try_index};
 
 // The number, and, where that is 0, the index that answers.
 #[repr(C)]
-#[derive(Drop)]
+#[derive(Clone, Copy)]
 pub struct Found {
     pub number: u32,
     pub index: u32,

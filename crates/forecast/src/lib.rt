@@ -1,4 +1,6 @@
 // The forecast: how much work a picture will be, from its mode and its size alone.
+#![tactic(auto)]
+
 ghost use Rattle.std.specs.Prelude.{◌≡◌};
 ghost use Rattle.picture.specs.Sizes.{Sized};
 ghost use Rattle.transform.specs.Level.{level};
@@ -12,7 +14,7 @@ use picture::size::Size;
 // The number, and, where that is 0, how often the inverse uses each operator of a level, and the bytes of the planes and of the samples.
 // All fit 32 bits: for each of at most 216,825 macroblocks there are 1024 bytes, 222,028,800 in all, and at most 32 uses of an operator.
 #[repr(C)]
-#[derive(Drop)]
+#[derive(Clone, Copy)]
 pub struct Work {
     pub number: u32,
     pub cores: u32,
@@ -23,7 +25,7 @@ pub struct Work {
 }
 
 // How often a level uses each of its operators.
-#[derive(Drop)]
+#[derive(Clone, Copy)]
 struct LevelUses {
     cores: u32,
     square_filters: u32,

@@ -1,4 +1,6 @@
 // The forward call: samples to coefficient planes, in the lent planes alone, and whether a sum wrapped.
+#![tactic(auto)]
+
 mod told; // told.rt: the levels undone, and whether a sum of them wrapped
 
 ghost use Rattle.std.specs.Prelude.{◌≡◌, false, ◌++◌, ◌*◌, length};

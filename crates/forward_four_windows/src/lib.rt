@@ -1,5 +1,7 @@
 // Overlap filters of squares undone, four windows side by side at a time, from a grid into a strip of 72 columns. Both levels use it: the compiler takes
 // the filter into the loop over the lanes, and makes vectors of it, only while nobody else calls the filter.
+#![tactic(auto)]
+
 ghost use Rattle.std.specs.Prelude.{◌≡◌, ℕ, ◌+◌, ◌*◌, ◌<◌, length};
 ghost use Rattle.lifting.specs.Program.{undo, get};
 ghost use Rattle.figures.specs.Figures.{square_filter};

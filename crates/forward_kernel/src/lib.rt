@@ -1,4 +1,6 @@
 // Four blocks side by side in a grid, their core transforms undone in four lanes, as coefficients 0 and coefficients 1 to 15.
+#![tactic(auto)]
+
 ghost use Rattle.std.specs.Prelude.{◌≡◌, List, ℕ, ◌+◌, ◌*◌, ◌/◌, ◌%◌, ◌<◌, length, ℤ};
 ghost use Rattle.lifting.specs.Program.{at as number};
 ghost use Rattle.figures.specs.Block.{flat};

@@ -1,4 +1,6 @@
 // Level one of the forward call: DC and low-pass numbers in place, its filters undone, where the mode has them, and then its cores.
+#![tactic(auto)]
+
 ghost use Rattle.std.specs.Prelude.{◌≡◌, ◌*◌, length};
 ghost use Rattle.lifting.specs.Program.{undo};
 ghost use Rattle.transform.specs.Level.{level};

@@ -1,4 +1,6 @@
 // The core transforms of level one undone in DC and low-pass, up to four macroblocks at a time.
+#![tactic(auto)]
+
 ghost use Rattle.std.specs.Prelude.{◌≡◌, ℕ, ◌+◌, ◌-◌, ◌*◌, ◌<◌, ◌≤◌, length};
 ghost use Rattle.lifting.specs.Program.{undo, get};
 ghost use Rattle.figures.specs.Block.{flat};

@@ -1,4 +1,6 @@
 // Level one's grid where it lies, in DC and low-pass: its numbers read and stored by square and coefficient, and by two and two.
+#![tactic(auto)]
+
 ghost use Rattle.std.specs.Prelude.{◌≡◌, ◌+◌, ◌*◌, ◌<◌, ◌≤◌, set};
 ghost use Rattle.lifting.specs.Program.{at, get, put};
 ghost use Rattle.figures.specs.Block.{four};

@@ -1,6 +1,8 @@
 // Level two of the forward call: the samples with its filters and cores undone, in the three planes.
 // Where the mode has filters, a strip of 18 rows and 72 columns goes over the picture, four macroblocks at a time: the windows go from the samples into it,
 // and the cores from it to the planes. Two of its rows are left over for the macroblocks below and parked in their cells, two columns for those on the right.
+#![tactic(auto)]
+
 ghost use Rattle.std.specs.Prelude.{◌≡◌, ℕ, ◌+◌, ◌*◌, ◌/◌, ◌%◌, ◌<◌, ◌≤◌, ◌⊎◌, false, length};
 ghost use Rattle.lifting.specs.Program.{undo, at as number};
 ghost use Rattle.lifting.specs.Wraps.{Within};

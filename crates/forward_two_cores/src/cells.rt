@@ -2,7 +2,7 @@
 ghost use Rattle.std.specs.Prelude.{◌≡◌, ◌+◌, ◌*◌, ◌<◌};
 ghost use Rattle.forward_two_cores.specs.Cells.{OfOne};
 
-#[derive(Drop)]
+#[derive(Clone, Copy)]
 pub struct Cells {
     pub dc: usize,
     pub low: usize,

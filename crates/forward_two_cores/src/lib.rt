@@ -1,4 +1,6 @@
 // The core transforms of level two undone from a grid into the three planes, four blocks at a time: a macroblock, and all of a picture from its samples.
+#![tactic(auto)]
+
 pub mod cells; // cells.rt: where a macroblock's numbers begin in the planes
 
 ghost use Rattle.std.specs.Prelude.{◌≡◌, false, ◌+◌, ◌*◌, ◌/◌, ◌%◌, ◌<◌, length};

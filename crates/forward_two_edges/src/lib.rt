@@ -1,4 +1,6 @@
 // The edges of a picture in the strip: the filters of four along them, and at the corners, undone from the samples.
+#![tactic(auto)]
+
 pub mod place; // place.rt: a place of the picture, in the samples and in the strip
 
 ghost use Rattle.std.specs.Prelude.{◌≡◌, ℕ, ◌+◌, ◌*◌, ◌/◌, ◌%◌, ◌<◌, ◌≤◌, length};

@@ -1,7 +1,7 @@
 // A place of the picture, in the samples and in the strip.
 ghost use Rattle.std.specs.Prelude.{◌≡◌, ◌+◌, ◌*◌, ◌<◌};
 
-#[derive(Drop)]
+#[derive(Clone, Copy)]
 pub struct Place {
     pub samples: usize,
     pub strip: usize,

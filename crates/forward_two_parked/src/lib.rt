@@ -1,4 +1,6 @@
 // Rows of the strip parked in the planes' cells of the macroblock row below, and fetched again when that row is made.
+#![tactic(auto)]
+
 ghost use Rattle.std.specs.Prelude.{◌≡◌, ℕ, ◌+◌, ◌*◌, ◌/◌, ◌%◌, ◌<◌, ◌≤◌, length};
 ghost use Rattle.lifting.specs.Program.{at as number};
 ghost use Rattle.transform.specs.Grids.{coefficients};

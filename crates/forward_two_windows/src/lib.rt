@@ -1,4 +1,6 @@
 // The windows of level two in the strip: the filters over the corners that four blocks share, undone from the samples.
+#![tactic(auto)]
+
 ghost use Rattle.std.specs.Prelude.{ℕ, ◌+◌, ◌*◌, ◌<◌, ◌≤◌};
 ghost use Rattle.forward_two_edges.specs.Strip.{Holds, Kept, Given, Stands};
 

@@ -1,5 +1,7 @@
 // The overlap filter of four numbers (Figure 4.13). The told form is the filter's text: beside the numbers it says, where `tell` asks, whether a reduction
 // changed a number. The plain form is the told one with nothing asked.
+#![tactic(auto)]
+
 ghost use Rattle.std.specs.Prelude.{◌≡◌, ◌&&◌, [], ◌∷◌};
 ghost use Rattle.lifting.specs.Program.{run, undo};
 ghost use Rattle.lifting.specs.Wraps.{wraps, undo_wraps};

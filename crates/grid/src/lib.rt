@@ -1,4 +1,6 @@
 // Four numbers in a line, corners of two by two, and squares of four by four, of a grid that is a slice in raster order.
+#![tactic(auto)]
+
 ghost use Rattle.std.specs.Prelude.{◌≡◌, ◌+◌, ◌<◌, length};
 ghost use Rattle.lifting.specs.Program.{get, put};
 ghost use Rattle.figures.specs.Block.{four, flat};

@@ -1,4 +1,6 @@
 // From planes to samples: the inverse transform, and its quarter view. Both tell whether a sum wrapped.
+#![tactic(auto)]
+
 mod told; // told.rt: the levels, and whether a sum of them wrapped
 
 ghost use Rattle.std.specs.Prelude.{◌≡◌, false, ◌++◌, ◌*◌, length};

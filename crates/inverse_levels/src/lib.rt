@@ -1,4 +1,6 @@
 // The overlap filters of the inverse transform over one level, in place on a grid of p squares across and q down. A square is a macroblock at level one and a block at level two.
+#![tactic(auto)]
+
 mod windows; // windows.rt: windows of the square filter, up to four at a time
 
 ghost use Rattle.std.specs.Prelude.{◌≡◌, ◌+◌, ◌-◌, ◌*◌, ◌<◌, ◌≤◌, length};

@@ -1,4 +1,6 @@
 // Level one of the inverse transform: from the DC and low-pass planes to the numbers from which level two goes on, which are also the quarter view.
+#![tactic(auto)]
+
 mod cores; // cores.rt: the core transforms
 
 ghost use Rattle.std.specs.Prelude.{◌≡◌, ◌+◌, ◌*◌, ◌<◌, length};

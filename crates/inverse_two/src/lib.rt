@@ -1,4 +1,6 @@
 // Level two of the inverse transform, in place: from the numbers that level one left and the high-pass plane to samples.
+#![tactic(auto)]
+
 mod four_blocks; // four_blocks.rt: four blocks side by side, filled and transformed
 
 ghost use Rattle.std.specs.Prelude.{◌≡◌, false, ℕ, ◌+◌, ◌*◌, ◌<◌, ◌≤◌, length, take};

@@ -1,6 +1,8 @@
 // Four squares side by side as four lanes, for loops over the lanes, and what comes of them moved out by rows of sixteen.
 // Each row of the squares is held in a local array of sixteen numbers, lane 0's four last and lane 3's first. So the compiler reads fours, turns them in
 // registers, and the arrays vanish. Where four more numbers of the array follow those of lane 0, it reads across them, and the array stays in memory.
+#![tactic(auto)]
+
 ghost use Rattle.std.specs.Prelude.{◌≡◌, ◌+◌, ◌<◌, ◌≤◌, length};
 ghost use Rattle.figures.specs.Block.{flat};
 ghost use Rattle.lanes.specs.Lanes.{rows_at, InLanes, Moved, Placed};

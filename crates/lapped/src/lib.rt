@@ -1,4 +1,6 @@
 // The C interface: one exported function for each operation, with the operation's own promises.
+#![tactic(auto)]
+
 ghost use Rattle.std.specs.Prelude.{◌≡◌, false};
 ghost use Rattle.picture.specs.Planes.{planes};
 ghost use Rattle.picture.specs.Numbers.{settled, inverse_number, forward_number, quarter_number};

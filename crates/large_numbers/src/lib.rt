@@ -1,4 +1,6 @@
 // The look for large numbers: where a level's numbers are all at most 2^25 in magnitude, or those of a block or window at most 2^27, no sum of it wraps.
+#![tactic(auto)]
+
 ghost use Rattle.std.specs.Prelude.{◌≡◌, false, ◌+◌, ◌*◌, ◌<◌, ◌≤◌, length, pos, nat_abs, ◌+ℤ◌};
 ghost use Rattle.lifting.specs.Row.{Row};
 ghost use Rattle.lifting.specs.Wrap.{low32};

@@ -117,15 +117,15 @@ row-reorder {n} {v} ps qs t r = let g = row_get ps r in record { len = g.len ∙
 pub row-run : {n : ℕ} {v : List ℤ} (p : Program) → T (valid n p) → Row n v → Row n (run p v)
 unfolding run_by
 row-run end t r = r
-row-run {n} (l ⨾ p) t r = row-run p (and_yes (valid_line n l) _ t).1 (row_line l r)
-row-run {n} (reorder to back p) t r =
+row-run {n} {v} (l ⨾ p) t r = row-run {v = line l v} p (and_yes (valid_line n l) _ t).1 (row_line l r)
+row-run {n} {v} (reorder to back p) t r =
     let (a, b) = and_yes (undoes n to back) _ t in
     let (c, d) = and_yes (undoes n back to) _ b in
-    row-run p d (row-reorder back to c r)
-row-run {n} (apply o s ps p) t r =
+    row-run {v = get back v} p d (row-reorder back to c r)
+row-run {n} {v} (apply o s ps p) t r =
     let (a, b) = and_yes (places n ps) _ t in
     let (c, d) = and_yes (valid (length ps) s) _ b in
-    row-run p d (row_put ps (row-run s c (row_get ps r)) r)
+    row-run {n = n} {v = put ps (run s (get ps v)) v} p d (row_put ps (row-run {n = length ps} {v = get ps v} s c (row_get ps r)) r)
 
 pub row-undo : {n : ℕ} {v : List ℤ} (p : Program) → T (valid n p) → Row n v → Row n (undo p v)
 unfolding undo_by
@@ -135,11 +135,11 @@ row-undo {n} (reorder to back p) t r =
     let (a, b) = and_yes (undoes n to back) _ t in
     let (c, d) = and_yes (undoes n back to) _ b in
     row-reorder to back a (row-undo p d r)
-row-undo {n} (apply o s ps p) t r =
+row-undo {n} {v} (apply o s ps p) t r =
     let (a, b) = and_yes (places n ps) _ t in
     let (c, d) = and_yes (valid (length ps) s) _ b in
     let u = row-undo p d r in
-    row_put ps (row-undo s c (row_get ps u)) u
+    row_put ps (row-undo {n = length ps} {v = get ps (undo p v)} s c (row_get ps u)) u
 
 -- ---- a line
 
@@ -238,18 +238,18 @@ use_back {n} {v} ps F G t r h e = rw (get-put ps (F (get ps v)) v t h r.len, e) 
 pub undo-run : {n : ℕ} {v : List ℤ} (p : Program) → T (valid n p) → Row n v → undo p (run p v) ≡ v
 unfolding undo_by run_by
 undo-run end t r = refl
-undo-run {n} (l ⨾ p) t r =
+undo-run {n} {v} (l ⨾ p) t r =
     let (a, b) = and_yes (valid_line n l) _ t in
-    rw (undo-run p b (row_line l r)) (line-back l a r)
+    rw (undo-run {v = line l v} p b (row_line l r)) (line-back l a r)
 undo-run {n} {v} (reorder to back p) t r =
     let (a, b) = and_yes (undoes n to back) _ t in
     let (c, d) = and_yes (undoes n back to) _ b in
-    rw (undo-run p d (row-reorder back to c r)) (get-undoes to back v a r.len)
+    rw (undo-run {v = get back v} p d (row-reorder back to c r)) (get-undoes to back v a r.len)
 undo-run {n} {v} (apply o s ps p) t r =
     let (a, b) = and_yes (places n ps) _ t in
     let (c, d) = and_yes (valid (length ps) s) _ b in
     let g = row_get ps r in
-    rw (undo-run p d (row_put ps (row-run s c g) r)) (use_back ps (run s) (undo s) a r (row-run s c g).len (undo-run s c g))
+    rw (undo-run {n = n} {v = put ps (run s (get ps v)) v} p d (row_put ps (row-run s c g) r)) (use_back ps (run s) (undo s) a r (row-run s c g).len (undo-run {n = length ps} {v = get ps v} s c g))
 
 pub run-undo : {n : ℕ} {v : List ℤ} (p : Program) → T (valid n p) → Row n v → run p (undo p v) ≡ v
 unfolding undo_by run_by
@@ -267,4 +267,4 @@ run-undo {n} {v} (apply o s ps p) t r =
     let (c, d) = and_yes (valid (length ps) s) _ b in
     let u = row-undo p d r in
     let g = row_get ps u in
-    rw (use_back ps (undo s) (run s) a u (row-undo s c g).len (run-undo s c g)) (run-undo p d r)
+    rw (use_back ps (undo s) (run s) a u (row-undo s c g).len (run-undo {n = length ps} {v = get ps (undo p v)} s c g)) (run-undo p d r)

@@ -84,18 +84,18 @@ wraps_turned end t r = refl
 wraps_turned {n} {v} (l ⨾ p) t r =
     let (a, b) = and_yes (valid_line n l) _ t in
     let w = row_line l r in
-    rw (undo-run p b w, ← wraps_turned p b w, ← line_turned l a r) (or_comm (line_wraps l v) (wraps p (line l v)))
-wraps_turned {n} (reorder to back p) t r =
+    rw (undo-run p b w, ← wraps_turned {v = line l v} p b w, ← line_turned l a r) (or_comm (line_wraps l v) (wraps p (line l v)))
+wraps_turned {n} {v} (reorder to back p) t r =
     let (a, b) = and_yes (undoes n to back) _ t in
     let (c, d) = and_yes (undoes n back to) _ b in
-    wraps_turned p d (row-reorder back to c r)
+    wraps_turned {v = get back v} p d (row-reorder back to c r)
 wraps_turned {n} {v} (apply o s ps p) t r =
     let (a, b) = and_yes (places n ps) _ t in
     let (c, d) = and_yes (valid (length ps) s) _ b in
     let g = row_get ps r in
     let y = row-run s c g in
     let w = row_put ps y r in
-    rw (undo-run p d w, ← wraps_turned p d w, get-put ps (run s (get ps v)) v a y.len r.len, ← wraps_turned s c g) (or_comm (wraps s (get ps v)) (wraps p (put ps (run s (get ps v)) v)))
+    rw (undo-run p d w, ← wraps_turned {n = n} {v = put ps (run s (get ps v)) v} p d w, get-put ps (run s (get ps v)) v a y.len r.len, ← wraps_turned {n = length ps} {v = get ps v} s c g) (or_comm (wraps s (get ps v)) (wraps p (put ps (run s (get ps v)) v)))
 
 pub undo_wraps_turned : {n : ℕ} {v : List ℤ} (p : Program) → T (valid n p) → Row n v → undo_wraps p v ≡ wraps p (undo p v)
 undo_wraps_turned {n} {v} p t r = ap (undo_wraps p) (sym (run-undo p t r)) ∙ sym (wraps_turned p t (row-undo p t r))

@@ -1,4 +1,6 @@
 // Signed 32-bit arithmetic that wraps, and division by a power of two that rounds down: the steps of a lifting line.
+#![tactic(auto)]
+
 pub mod told; // told.rt: the same steps, with whether a reduction changed a number
 
 ghost use Rattle.std.specs.Prelude.{◌≡◌, ◌+ℤ◌, ◌-ℤ◌, ◌^◌, ◌<◌};

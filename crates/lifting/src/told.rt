@@ -6,7 +6,7 @@ ghost use Rattle.lifting.specs.Wraps.{changes};
 
 use crate::{add, sub};
 
-#[derive(Drop)]
+#[derive(Clone, Copy)]
 pub struct Told {
     pub value: i32,
     pub wrapped: bool,

@@ -1,5 +1,7 @@
 // What the overlap filters are made of (Figures 4.9 to 4.12). The told form of each operator is its text: beside the numbers it says, where `tell` asks,
 // whether a reduction changed a number. The plain form is the told one with nothing asked.
+#![tactic(auto)]
+
 ghost use Rattle.std.specs.Prelude.{◌≡◌, ◌&&◌, [], ◌∷◌};
 ghost use Rattle.lifting.specs.Program.{run, undo};
 ghost use Rattle.lifting.specs.Wraps.{wraps, undo_wraps};

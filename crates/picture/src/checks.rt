@@ -12,7 +12,7 @@ use crate::refusals::{
 use crate::size::Size;
 
 // What checks answer: the mode where all pass, or the number of the first that fails.
-#[derive(Drop)]
+#[derive(Clone, Copy)]
 pub enum Checked {
     Ready(Mode),
     Refused(u32),

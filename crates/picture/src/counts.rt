@@ -3,17 +3,17 @@
 ghost use Rattle.std.specs.Prelude.{◌≡◌, ◌*◌, ◌≤◌};
 
 #[repr(C)]
-#[derive(Drop)]
+#[derive(Clone, Copy)]
 pub struct Macroblocks(pub u32);
 
-#[derive(Drop)]
+#[derive(Clone, Copy)]
 pub struct Blocks(pub u32);
 
-#[derive(Drop)]
+#[derive(Clone, Copy)]
 pub struct Samples(pub u32);
 
 // n, the macroblocks of a picture.
-#[derive(Drop)]
+#[derive(Clone, Copy)]
 pub struct Area(pub u32);
 
 impl Macroblocks {

@@ -1,4 +1,6 @@
 // Pictures: which levels a mode filters, counts that carry their unit, the size record, and the checks that the operations share.
+#![tactic(auto)]
+
 pub mod answer; // answer.rt: what inverse, forward and quarter view answer
 pub mod checks; // checks.rt: the checks of mode and size, and of the lengths of planes
 pub mod counts; // counts.rt: counts of macroblocks, blocks and samples

@@ -2,14 +2,14 @@
 ghost use Rattle.std.specs.Prelude.{◌≡◌};
 ghost use Rattle.picture.specs.Modes.{mode_answer};
 
-#[derive(Drop)]
+#[derive(Clone, Copy)]
 pub struct Mode {
     pub first: bool,
     pub second: bool,
 }
 
 // What a number chooses: a mode, or none.
-#[derive(Drop)]
+#[derive(Clone, Copy)]
 pub enum ModeAnswer {
     Known(Mode),
     Unknown,

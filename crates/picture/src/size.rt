@@ -5,19 +5,19 @@ ghost use Rattle.picture.specs.Sizes.{Sized, macroblocks};
 use crate::counts::{Area, Blocks, Macroblocks, Samples};
 
 #[repr(C)]
-#[derive(Drop)]
+#[derive(Clone, Copy)]
 pub struct Size {
     pub width: Macroblocks,
     pub height: Macroblocks,
 }
 
-#[derive(Drop)]
+#[derive(Clone, Copy)]
 pub struct BlockSize {
     pub width: Blocks,
     pub height: Blocks,
 }
 
-#[derive(Drop)]
+#[derive(Clone, Copy)]
 pub struct SampleSize {
     pub width: Samples,
     pub height: Samples,

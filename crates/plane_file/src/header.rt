@@ -13,7 +13,7 @@ use picture::refusals::{FILE_LENGTH, FILE_TOO_SHORT, LAST_WORD, OFFSETS};
 use picture::size::Size;
 
 // The words in their order; the last is to be zero.
-#[derive(Drop)]
+#[derive(Clone, Copy)]
 pub struct Words {
     pub mode: u32,
     pub width: u32,
@@ -54,7 +54,7 @@ impl Words {
 
 // The number of an operation, and, where that is 0, the mode and the size that the header says.
 #[repr(C)]
-#[derive(Drop)]
+#[derive(Clone, Copy)]
 pub struct Header {
     pub number: u32,
     pub mode: u32,

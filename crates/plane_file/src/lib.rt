@@ -1,4 +1,6 @@
 // Plane files: the header, loading and saving.
+#![tactic(auto)]
+
 pub mod header; // header.rt: the header's words, their checks and what they answer
 pub mod layout; // layout.rt: where the planes start, and how long a file is
 pub mod load; // load.rt: planes from a file

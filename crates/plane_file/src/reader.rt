@@ -6,7 +6,7 @@ ghost use Rattle.plane_file.specs.Layout.{header_bytes, header_length};
 use crate::layout::HEADER_WORDS;
 use crate::word::word_at;
 
-#[derive(Drop)]
+#[derive(Clone, Copy)]
 pub struct WordReader<'a> {
     pub bytes: &'a [u8],
     pub at: usize,

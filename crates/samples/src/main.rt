@@ -1,4 +1,6 @@
 // The program: one plane file in from standard input, its samples out as rows of decimals, or the number that refuses it.
+#![tactic(auto)]
+
 use decode::text::show;
 use libc::{STDIN_FILENO, STDOUT_FILENO};
 

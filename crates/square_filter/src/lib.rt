@@ -1,4 +1,6 @@
 // The overlap filter of a square of four rows of four numbers (Figure 4.14).
+#![tactic(auto)]
+
 mod filter_stages; // filter_stages.rt: the stages of Figure 4.14 after its first
 
 ghost use Rattle.std.specs.Prelude.{◌≡◌, pos};

@@ -5,7 +5,7 @@ ghost use Rattle.step_sizes.specs.Parts.{Divides};
 
 use crate::table::step;
 
-#[derive(Drop)]
+#[derive(Clone, Copy)]
 pub struct Divisor {
     pub step: u32,
     pub multiplier: u32,

@@ -1,4 +1,6 @@
 // Step sizes: the table of steps, division by a step, and single numbers quantised and restored.
+#![tactic(auto)]
+
 pub mod division; // division.rt: division by a step, as a multiplication and a shift
 pub mod nearest; // nearest.rt: one number quantised and restored at once
 pub mod number; // number.rt: one number quantised, and one restored

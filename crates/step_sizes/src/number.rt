@@ -37,7 +37,7 @@ pub fn quantise_number(x: i32, by: Divisor) -> i32
 }
 
 // The least and the greatest number of a range.
-#[derive(Drop)]
+#[derive(Clone, Copy)]
 pub struct Limits {
     pub least: i32,
     pub most: i32,

@@ -1,4 +1,6 @@
 // One try of an index: forward, quantise and restore in place, inverse, and a look at every sample.
+#![tactic(auto)]
+
 ghost use Rattle.std.specs.Prelude.{◌≡◌, true, false, ◌*◌, ◌≤◌, length};
 ghost use Rattle.picture.specs.Sizes.{Sized, macroblocks};
 ghost use Rattle.picture.specs.Planes.{Lengths, planes};
