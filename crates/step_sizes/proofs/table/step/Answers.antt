@@ -5,20 +5,15 @@ use mathlib.Core.List.{List}
 use native.Mathlib.Omega.{arith}
 use lib.Dec.{T, eqb, eqb→eq}
 use lib.ListN.{get_or}
-use borrow.Author.Rules.{rules}
 use Rattle.lifting.specs.Tests.{all}
 use Rattle.lifting.proofs.Tests.{all-at}
 use Rattle.step_sizes.specs.Steps.{step_of}
 use Rattle.step_sizes.specs.Parts.{Entry}
-use Rattle.step_sizes.proofs.table.step.Statement.{statement}
-use Rattle.step_sizes.proofs.table.step.Tie as tie
+use Rattle.step_sizes.proofs.table.step.Goals as goal
 
 rule : {table : List ℕ} {k value : ℕ} → Entry table k value → T (all 256 (λ i. eqb (get_or table i 0) (step_of i))) → k < 256 → value ≡ step_of k
 rule {table} {k} e t h = e.is ∙ eqb→eq (get_or table k 0) (step_of k) (all-at 256 (λ i. eqb (get_or table i 0) (step_of i)) t k h)
 
-returns : tie.Need-returns
+pub returns : goal.returns
 unfolding step_of
 returns c = rule c.entry.ensures tt (omega arith)
-
-pub step_spec : {M : Type 1} → statement M
-step_spec = tie.close (tie.spec (λ c. search rules) (λ c κs. search rules) returns)
