@@ -34,7 +34,7 @@ adds_two t w x y e d = rw (e, d, and-or_distrib_left t x y) (or_assoc w (t && x)
 
 -- a step's answer x is z, and l says whether b, where t asks
 abbrev pub Step : Bool → ℤ → ℤ → Bool → Bool → Type 0
-Step t x z l b = (x ≡ z) × (l ≡ t && b)
+Step t x z l b = record { value : x ≡ z; told : l ≡ t && b }
 
 -- ---- what stands on the right of a line
 
@@ -55,8 +55,8 @@ module _ {t : Bool} {e : Expr} {v : List ℤ} {x y : ℤ} {f : Bool → Bool} wh
   pub rounded : {k : ℤ} {s : ℕ} {l : Bool} → Value t e v x f → Step t y (shr_z (wrap (x +ℤ k)) (2 ^ s)) l (changes (x +ℤ k)) → Value t (e ⊕ k ≫ s) v (kept y) (λ w. f w || l)
   unfolding value_by value_wraps
   rounded {k} {s} a c = record {
-    gives = ap kept c.0 ∙ again_shr _ _ ∙ ap (λ z. shr_z (wrap (z +ℤ k)) (2 ^ s)) a.gives;
-    tells = λ w. adds_two t w _ _ (a.tells w) (c.1 ∙ ap (λ z. t && changes (z +ℤ k)) a.gives);
+    gives = ap kept c.value ∙ again_shr _ _ ∙ ap (λ z. shr_z (wrap (z +ℤ k)) (2 ^ s)) a.gives;
+    tells = λ w. adds_two t w _ _ (a.tells w) (c.told ∙ ap (λ z. t && changes (z +ℤ k)) a.gives);
   }
 
   pub scaled : {k : ℤ} {s : ℕ} {l : Bool}
@@ -64,16 +64,16 @@ module _ {t : Bool} {e : Expr} {v : List ℤ} {x y : ℤ} {f : Bool → Bool} wh
       → Value t (3× e ⊕ k ≫ s) v (kept y) (λ w. f w || l)
   unfolding value_by value_wraps
   scaled {k} {s} a c = record {
-    gives = ap kept c.0 ∙ again_shr _ _ ∙ ap (λ z. shr_z (wrap (wrap (pos 3 *ℤ z) +ℤ k)) (2 ^ s)) a.gives;
-    tells = λ w. adds_two t w _ _ (a.tells w) (c.1 ∙ ap (λ z. t && (changes (pos 3 *ℤ z) || changes (wrap (pos 3 *ℤ z) +ℤ k))) a.gives) ∙ ap (λ z. w || (t && z)) (sym (or_assoc (value_wraps e v) _ _));
+    gives = ap kept c.value ∙ again_shr _ _ ∙ ap (λ z. shr_z (wrap (wrap (pos 3 *ℤ z) +ℤ k)) (2 ^ s)) a.gives;
+    tells = λ w. adds_two t w _ _ (a.tells w) (c.told ∙ ap (λ z. t && (changes (pos 3 *ℤ z) || changes (wrap (pos 3 *ℤ z) +ℤ k))) a.gives) ∙ ap (λ z. w || (t && z)) (sym (or_assoc (value_wraps e v) _ _));
   }
 
   pub difference : {d : Expr} {z : ℤ} {g : Bool → Bool} {l : Bool}
       → Value t e v x f → Value t d v y g → Step t z (wrap (x -ℤ y)) l (changes (x -ℤ y)) → Value t (e ⊖ d) v (kept z) (λ w. g (f w) || l)
   unfolding value_by value_wraps
   difference a b c = record {
-    gives = ap kept c.0 ∙ again _ ∙ rw (a.gives, b.gives);
-    tells = λ w. adds_two t w _ _ (b.tells (f w) ∙ adds_two t w _ _ (a.tells w) refl) (c.1 ∙ rw (a.gives, b.gives));
+    gives = ap kept c.value ∙ again _ ∙ rw (a.gives, b.gives);
+    tells = λ w. adds_two t w _ _ (b.tells (f w) ∙ adds_two t w _ _ (a.tells w) refl) (c.told ∙ rw (a.gives, b.gives));
   }
 
 -- ---- one line
@@ -86,19 +86,19 @@ pub record Did (t : Bool) (l : Line) (v u : List ℤ) (f : Bool → Bool) : Type
 module _ {t : Bool} {i : ℕ} {e : Expr} {v : List ℤ} {x y : ℤ} {f : Bool → Bool} {l : Bool} where
   pub plus : Value t e v y f → Step t x (wrap (at v i +ℤ y)) l (changes (at v i +ℤ y)) → Did t (i += e) v (set v i (kept x)) (λ w. f w || l)
   unfolding line_by line_wraps
-  plus a c = record { gives = ap (set v i) (ap kept c.0 ∙ again _ ∙ ap (λ z. wrap (at v i +ℤ z)) a.gives); tells = λ w. adds_two t w _ _ (a.tells w) (c.1 ∙ ap (λ z. t && changes (at v i +ℤ z)) a.gives) }
+  plus a c = record { gives = ap (set v i) (ap kept c.value ∙ again _ ∙ ap (λ z. wrap (at v i +ℤ z)) a.gives); tells = λ w. adds_two t w _ _ (a.tells w) (c.told ∙ ap (λ z. t && changes (at v i +ℤ z)) a.gives) }
 
   pub minus : Value t e v y f → Step t x (wrap (at v i -ℤ y)) l (changes (at v i -ℤ y)) → Did t (i -= e) v (set v i (kept x)) (λ w. f w || l)
   unfolding line_by line_wraps
-  minus a c = record { gives = ap (set v i) (ap kept c.0 ∙ again _ ∙ ap (λ z. wrap (at v i -ℤ z)) a.gives); tells = λ w. adds_two t w _ _ (a.tells w) (c.1 ∙ ap (λ z. t && changes (at v i -ℤ z)) a.gives) }
+  minus a c = record { gives = ap (set v i) (ap kept c.value ∙ again _ ∙ ap (λ z. wrap (at v i -ℤ z)) a.gives); tells = λ w. adds_two t w _ _ (a.tells w) (c.told ∙ ap (λ z. t && changes (at v i -ℤ z)) a.gives) }
 
   pub taken : Value t e v y f → Step t x (wrap (y -ℤ at v i)) l (changes (y -ℤ at v i)) → Did t (i from e) v (set v i (kept x)) (λ w. f w || l)
   unfolding line_by line_wraps
-  taken a c = record { gives = ap (set v i) (ap kept c.0 ∙ again _ ∙ ap (λ z. wrap (z -ℤ at v i)) a.gives); tells = λ w. adds_two t w _ _ (a.tells w) (c.1 ∙ ap (λ z. t && changes (z -ℤ at v i)) a.gives) }
+  taken a c = record { gives = ap (set v i) (ap kept c.value ∙ again _ ∙ ap (λ z. wrap (z -ℤ at v i)) a.gives); tells = λ w. adds_two t w _ _ (a.tells w) (c.told ∙ ap (λ z. t && changes (z -ℤ at v i)) a.gives) }
 
 pub negated : {t : Bool} {i : ℕ} {v : List ℤ} {x : ℤ} {l : Bool} → Step t x (wrap (neg_ℤ (at v i))) l (changes (neg_ℤ (at v i))) → Did t (neg i) v (set v i (kept x)) (λ w. w || l)
 unfolding line_by line_wraps
-negated {i} {v} c = record { gives = ap (set v i) (ap kept c.0 ∙ again _); tells = λ w. ap (λ z. w || z) c.1 }
+negated {i} {v} c = record { gives = ap (set v i) (ap kept c.value ∙ again _); tells = λ w. ap (λ z. w || z) c.told }
 
 pub swapped : {t : Bool} {i j : ℕ} {v : List ℤ} → Did t (swap i j) v (set (set v i (at v j)) j (at v i)) (λ w. w)
 unfolding line_by line_wraps
@@ -124,11 +124,11 @@ module _ {t : Bool} {p : Program} {v r : List ℤ} {g : Bool → Bool} where
   -- a use of an operator
   infixr 30 ◌▸◌
   pub ◌▸◌ : {o : Operator} {s : Program} {ps : List ℕ} {x : List ℤ} {l : Bool}
-      → (x ≡ run s (get ps v)) × (l ≡ t && wraps s (get ps v)) → Goes t p (put ps x v) r g → Goes t (apply o s ps p) v r (λ w. g (w || l))
+      → record { done : x ≡ run s (get ps v); told : l ≡ t && wraps s (get ps v) } → Goes t p (put ps x v) r g → Goes t (apply o s ps p) v r (λ w. g (w || l))
   unfolding run_by wraps
   ◌▸◌ {ps} {l} d q = record {
-    gives = q.gives ∙ ap (λ z. run p (put ps z v)) d.0;
-    tells = λ w. q.tells (w || l) ∙ adds_two t w _ _ (ap (λ z. w || z) d.1) (ap (λ z. t && wraps p (put ps z v)) d.0);
+    gives = q.gives ∙ ap (λ z. run p (put ps z v)) d.done;
+    tells = λ w. q.tells (w || l) ∙ adds_two t w _ _ (ap (λ z. w || z) d.told) (ap (λ z. t && wraps p (put ps z v)) d.done);
   }
 
 -- ---- undone, from the last line to the first
@@ -152,21 +152,21 @@ module _ {t : Bool} {p : Program} {v u : List ℤ} {f : Bool → Bool} where
 
   infixl 30 ◌◂◌
   pub ◌◂◌ : {o : Operator} {s : Program} {ps : List ℕ} {x : List ℤ} {l : Bool}
-      → Comes t p v u f → (x ≡ undo s (get ps u)) × (l ≡ t && undo_wraps s (get ps u)) → Comes t (apply o s ps p) v (put ps x u) (λ w. f w || l)
+      → Comes t p v u f → record { done : x ≡ undo s (get ps u); told : l ≡ t && undo_wraps s (get ps u) } → Comes t (apply o s ps p) v (put ps x u) (λ w. f w || l)
   unfolding undo_by undo_wraps
   ◌◂◌ {s} {ps} q d = record {
-    gives = rw (d.0, q.gives);
-    tells = λ w. adds_two t w _ _ (q.tells w) (d.1 ∙ ap (λ z. t && undo_wraps s (get ps z)) q.gives);
+    gives = rw (d.done, q.gives);
+    tells = λ w. adds_two t w _ _ (q.tells w) (d.told ∙ ap (λ z. t && undo_wraps s (get ps z)) q.gives);
   }
 
 -- ---- programs one after the other, of which some are known by a call
 
 module _ {t : Bool} {p : Program} {v r : List ℤ} {l : Bool} where
-  pub called : (r ≡ run p v) × (l ≡ t && wraps p v) → Goes t p v r (λ w. w || l)
-  called e = record { gives = e.0; tells = λ w. ap (λ z. w || z) e.1 }
+  pub called : record { done : r ≡ run p v; told : l ≡ t && wraps p v } → Goes t p v r (λ w. w || l)
+  called e = record { gives = e.done; tells = λ w. ap (λ z. w || z) e.told }
 
-  pub uncalled : (r ≡ undo p v) × (l ≡ t && undo_wraps p v) → Comes t p v r (λ w. w || l)
-  uncalled e = record { gives = e.0; tells = λ w. ap (λ z. w || z) e.1 }
+  pub uncalled : record { done : r ≡ undo p v; told : l ≡ t && undo_wraps p v } → Comes t p v r (λ w. w || l)
+  uncalled e = record { gives = e.done; tells = λ w. ap (λ z. w || z) e.told }
 
 module _ {t : Bool} {p q : Program} {v u r : List ℤ} {f g : Bool → Bool} where
   pub and_then : Goes t p v u f → Goes t q u r g → Goes t (p then q) v r (λ w. g (f w))
@@ -190,8 +190,8 @@ two_read e f = rw (to_z-of_z w32 _ e, to_z-of_z w32 _ f)
 pub four_read : {a b c d : ℤ} → SFits w32 a → SFits w32 b → SFits w32 c → SFits w32 d → kept a ∷ kept b ∷ kept c ∷ kept d ∷ [] ≡ a ∷ b ∷ c ∷ d ∷ []
 four_read e f g h = rw (to_z-of_z w32 _ e, to_z-of_z w32 _ f, to_z-of_z w32 _ g, to_z-of_z w32 _ h)
 
-pub ran : (t : Bool) (p : Program) (v : List ℤ) {u r : List ℤ} {f : Bool → Bool} → u ≡ v → Goes t p u r f → (r ≡ run p v) × (f false ≡ t && wraps p v)
-ran t p v e g = (g.gives ∙ ap (run p) e, g.tells false ∙ ap (λ z. t && wraps p z) e)
+pub ran : (t : Bool) (p : Program) (v : List ℤ) {u r : List ℤ} {f : Bool → Bool} → u ≡ v → Goes t p u r f → record { done : r ≡ run p v; told : f false ≡ t && wraps p v }
+ran t p v e g = record { done = g.gives ∙ ap (run p) e; told = g.tells false ∙ ap (λ z. t && wraps p z) e }
 
-pub undone : (t : Bool) (p : Program) (v : List ℤ) {u r : List ℤ} {f : Bool → Bool} → u ≡ v → Comes t p u r f → (r ≡ undo p v) × (f false ≡ t && undo_wraps p v)
-undone t p v e g = (g.gives ∙ ap (undo p) e, g.tells false ∙ ap (λ z. t && undo_wraps p z) e)
+pub undone : (t : Bool) (p : Program) (v : List ℤ) {u r : List ℤ} {f : Bool → Bool} → u ≡ v → Comes t p u r f → record { done : r ≡ undo p v; told : f false ≡ t && undo_wraps p v }
+undone t p v e g = record { done = g.gives ∙ ap (undo p) e; told = g.tells false ∙ ap (λ z. t && undo_wraps p z) e }

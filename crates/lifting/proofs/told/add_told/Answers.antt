@@ -9,8 +9,8 @@ returns-then-tell c2 =
     let c1 = c2.before.before in
     let f = c1.before.ranges in
     record {
-        value = simp (c1.add-value.ensures, again, to_z-of_z w32 _ f.a, to_z-of_z w32 _ f.b);
-        told = simp (c2.sum_wraps-wrapped.ensures, c2.before.if-tell.true, to_z-of_z w32 _ f.a, to_z-of_z w32 _ f.b);
+      value = simp (c1.add-value.ensures, again, to_z-of_z w32 _ f.a, to_z-of_z w32 _ f.b);
+      told = simp (c2.sum_wraps-wrapped.ensures, c2.before.if-tell.true, to_z-of_z w32 _ f.a, to_z-of_z w32 _ f.b);
     }
 
 pub returns-else-tell : goal.returns-else-tell

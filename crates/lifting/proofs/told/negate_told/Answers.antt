@@ -8,6 +8,6 @@ pub returns : goal.returns
 returns c =
     let f = c.before.ranges in
     record {
-        value = simp (c.sub_told.ensures.value, to_z-of_z w32 _ f.a, +ℤ_idl);
-        told = simp (c.sub_told.ensures.told, to_z-of_z w32 _ f.a, +ℤ_idl);
+      value = simp (c.sub_told.ensures.value, to_z-of_z w32 _ f.a, +ℤ_idl);
+      told = simp (c.sub_told.ensures.told, to_z-of_z w32 _ f.a, +ℤ_idl);
     }

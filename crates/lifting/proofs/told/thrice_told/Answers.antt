@@ -14,6 +14,6 @@ returns c6 =
     let c1 = c3.before.before in
     let f = c1.before.ranges in
     let t = c1.before.args.tell in record {
-        value = simp (c3.add_told-all.ensures.value, c1.add_told-twice.ensures.value, again, to_z-of_z w32 _ f.a) (three c1.before.args.a);
-        told = simp (c3.add_told-all.ensures.told, c1.add_told-twice.ensures.value, c1.add_told-twice.ensures.told, again, to_z-of_z w32 _ f.a) (sym (and-or_distrib_left t _ _) ∙ ap (λ z. t && z) (thrice_changes c1.before.args.a));
+      value = simp (c3.add_told-all.ensures.value, c1.add_told-twice.ensures.value, again, to_z-of_z w32 _ f.a) (three c1.before.args.a);
+      told = simp (c3.add_told-all.ensures.told, c1.add_told-twice.ensures.value, c1.add_told-twice.ensures.told, again, to_z-of_z w32 _ f.a) (sym (and-or_distrib_left t _ _) ∙ ap (λ z. t && z) (thrice_changes c1.before.args.a));
     }
