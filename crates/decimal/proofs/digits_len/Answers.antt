@@ -1,6 +1,5 @@
 -- The loop takes the last digit off `rest` in each turn: k and the digits of `rest` are one more than the digits of n.
 use native.Mathlib.Omega.{arith}
-use Rattle.decimal.specs.Text.{digits}
 use Rattle.decimal.proofs.Digits.{length-one, length_more}
 use Rattle.decimal.proofs.digits_len.Goals as goal
 

@@ -1,5 +1,5 @@
 -- What is left of the room differs from the rest of the row as the room does from the whole row.
-use Prim.Native.Nat.{◌+◌, ◌-◌, ◌<◌}
+use Prim.Native.Nat.{◌+◌, ◌<◌}
 use mathlib.Core.Path.{◌≡◌, refl, ap, sym}
 use native.Mathlib.Omega.{arith}
 use lib.IntN.{pos}

@@ -49,6 +49,6 @@ returns c =
     let h : length (refused_line a.k) ≤ length a.out.now = omega arith in
     rw (count_fits (refused_line a.k) (length a.out.now) h, written-fits (refused_line a.k) a.out.now h)
     record {
-        value = omega (arith, d.ensures.value, w.ensures.value);
-        out_after = whole a.out.now w.new.out d.new.out d.result a.k h w.ensures.out_after (rw w.ensures.value at d.ensures.out_after) (rw w.ensures.value at d.ensures.value);
+      value = omega (arith, d.ensures.value, w.ensures.value);
+      out_after = whole a.out.now w.new.out d.new.out d.result a.k h w.ensures.out_after (rw w.ensures.value at d.ensures.out_after) (rw w.ensures.value at d.ensures.value);
     }
