@@ -1,12 +1,10 @@
 -- The lines of Figure 4.9 from the last to the first, each by what its calls ensure.
-use borrow.Author.Rules.{rules}
 use Rattle.lifting.specs.Program.{back}
 use Rattle.lifting.proofs.Traces.{number, rounded, plus, minus, ◌⇐◌, at_start, undone, two_read}
 use Rattle.figures.specs.Figures.{rotation}
-use Rattle.overlap_operators.proofs.undo_rotation_told.Statement.{statement}
-use Rattle.overlap_operators.proofs.undo_rotation_told.Tie as tie
+use Rattle.overlap_operators.proofs.undo_rotation_told.Goals as goal
 
-returns : tie.Need-returns
+pub returns : goal.returns
 unfolding back rotation
 returns c13 =
     let c7 = c13.before.before.before.before.before.before in
@@ -16,8 +14,5 @@ returns c13 =
     let e = c1.before in
     undone e.args.tell rotation _ (two_read e.ranges.a e.ranges.b)
     (at_start
-    ⇐ minus (rounded number c1.rounded-told.ensures) c3.sub_told.ensures
-    ⇐ plus (rounded number c5.rounded-told2.ensures) c7.add-told.ensures)
-
-pub undo-rotation-told-spec : {M : Type 1} → statement M
-undo-rotation-told-spec = tie.close (tie.spec (λ c κs. search rules) (λ c κs. tt) (λ c κs. search rules) (λ c κs. tt) returns)
+    ⇐ minus (rounded number c1.rounded_told-e1.ensures) c3.sub_told-b1.ensures
+    ⇐ plus (rounded number c5.rounded_told-e2.ensures) c7.add_told-a1.ensures)
