@@ -75,8 +75,21 @@ def renamed():
     return out
 
 
+def foreign(text):
+    """The names that a file takes from the library."""
+    ours = {path.split("/")[1] for path in ANTT + CODE}
+    names = set()
+    for m in re.finditer(r"^(?:ghost )?use ([^{\s]+)\.\{(.*)\};?$", text, re.M):
+        parts = m.group(1).split(".")
+        if parts[0] != "Rattle" or parts[1] not in ours:
+            names |= {item.split(" as ")[-1].strip() for item in m.group(2).split(",")}
+    return names
+
+
 def turned(path, text, new_names):
     """The text with new names: everywhere for words in camel case; those with a dash, which may be English, only in code."""
+    kept = foreign(text)
+    new_names = {old: new for old, new in new_names.items() if old not in kept}
     camel = {old: new for old, new in new_names.items() if "-" not in old}
 
     def put(names, part):

@@ -1,6 +1,6 @@
 -- The last six lines of Figure 4.13, which go to a with d and to b with c in turn, as the two pairs' lines: what they leave computes, and their tests are joined in another order.
 use mathlib.Core.Path.{◌≡◌, refl, sym, ◌∙◌, ap}
-use mathlib.Core.Bool.{Bool, true, false, ◌||◌, ◌&&◌, or_true, or-false}
+use mathlib.Core.Bool.{Bool, true, false, ◌||◌, ◌&&◌, or-true, or-false}
 use mathlib.Core.List.{List, [], ◌∷◌}
 use lib.IntN.{ℤ, pos}
 use Rattle.lifting.specs.Program.{var, ◌⊕◌, ◌⊖◌, 3×, ◌≫◌, Line, ◌+=◌, ◌-=◌, Program, end, ◌⨾◌, at, line, back, run, undo, value_by, line_by, run_by, undo_by}
@@ -31,14 +31,14 @@ third = a += (3× (var b) ⊕ pos 16 ≫ 5)
 
 in_turn : (k1 l1 k2 l2 k3 l3 : Bool) → k1 || (l1 || (k2 || (l2 || (k3 || (l3 || false))))) ≡ (k1 || (k2 || (k3 || false))) || (l1 || (l2 || (l3 || false)))
 in_turn true l1 k2 l2 k3 l3 = refl
-in_turn false l1 true l2 k3 l3 = or_true l1
-in_turn false l1 false l2 true l3 = ap (λ x. l1 || x) (or_true l2) ∙ or_true l1
+in_turn false l1 true l2 k3 l3 = or-true l1
+in_turn false l1 false l2 true l3 = ap (λ x. l1 || x) (or-true l2) ∙ or-true l1
 in_turn false l1 false l2 false l3 = refl
 
 back_in_turn : (k1 l1 k2 l2 k3 l3 : Bool) → l3 || k3 || l2 || k2 || l1 || k1 ≡ (k3 || k2 || k1) || (l3 || l2 || l1)
-back_in_turn k1 l1 k2 l2 true l3 = rw (or_true l3)
-back_in_turn k1 l1 true l2 false l3 = rw (or_true (l3 || false || l2))
-back_in_turn true l1 false l2 false l3 = or_true (l3 || false || l2 || false || l1)
+back_in_turn k1 l1 k2 l2 true l3 = rw (or-true l3)
+back_in_turn k1 l1 true l2 false l3 = rw (or-true (l3 || false || l2))
+back_in_turn true l1 false l2 false l3 = or-true (l3 || false || l2 || false || l1)
 back_in_turn false l1 false l2 false l3 = rw (or-false l3, or-false (l3 || l2), or-false (l3 || l2 || l1))
 
 pairs-wrap : (x y z w : ℤ) → wraps last_lines (x ∷ y ∷ z ∷ w ∷ []) ≡ wraps pair_scale (x ∷ w ∷ []) || wraps pair_scale (y ∷ z ∷ [])

@@ -9,7 +9,7 @@ use native.Mathlib.Nat.{mul-le-mul}
 use lib.Dec.{T, ltb, eqb}
 use lib.IntN.{ℤ}
 use lib.ListN.{length}
-use borrow.Author.Tests.{ltb-false, le-ltb, eqb-true, not_false, le-leb, lt-leb, eq-eqb, ne_eqb}
+use borrow.Author.Tests.{ltb-false, le-ltb, eqb-true, not-false, le-leb, lt-leb, eq-eqb, ne_eqb}
 use Rattle.picture.specs.declared.mode.Mode.{Mode}
 use Rattle.picture.specs.declared.size.Size.{Size}
 use Rattle.picture.specs.declared.mode.ModeAnswer.{ModeAnswer}
@@ -50,7 +50,7 @@ pub is_within : (k most x : ℕ) → 0 < x → x ≤ most → first_of ((k if ou
 is_within k most x a b = passing k _ (neither _ _ (le-ltb x 1 a) (le-ltb most x b))
 
 pub like : (a b : ℕ) → unlike a b ≡ false → a ≡ b
-like a b e = eqb-true a b (not_false (eqb a b) e)
+like a b e = eqb-true a b (not-false (eqb a b) e)
 
 pub alike : (a b : ℕ) → a ≡ b → unlike a b ≡ false
 alike a b e = simp (eq-eqb a b e)
