@@ -1,7 +1,7 @@
 -- The square and the coefficient at a place, and the place of a coefficient in a square, undo each other:
 -- a place is its row and column by digits to the base 4 * p, a square its row and column by digits to the base p, and a row or column of places by digits to the base 4.
-use Prim.Native.Nat.{ℕ, zero, suc, ◌+◌, ◌*◌, ◌/◌, ◌%◌, ◌<◌}
-use mathlib.Core.Path.{◌≡◌, sym, ◌∙◌, ap}
+use Prim.Native.Nat.{ℕ, ◌+◌, ◌*◌, ◌/◌, ◌%◌, ◌<◌}
+use mathlib.Core.Path.{◌≡◌}
 use native.Mathlib.Omega.{arith}
 use native.Mathlib.Nat.{mod-lt, div-add-mod', div-lt_iff_lt-mul}
 use lib.Arith.{digits_lt, digits_div, digits_mod}

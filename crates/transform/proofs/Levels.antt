@@ -1,5 +1,5 @@
 -- A level can be undone: the places of each of its uses rise one after the other and stay inside the grid, so that they are different places of it.
-use Prim.Native.Nat.{ℕ, zero, suc, ◌+◌, ◌-◌, ◌*◌, ◌≤◌, ◌<◌}
+use Prim.Native.Nat.{ℕ, suc, ◌+◌, ◌*◌, ◌≤◌, ◌<◌}
 use mathlib.Core.Path.{◌≡◌, refl}
 use mathlib.Core.Bool.{Bool, true, false, not}
 use mathlib.Core.List.{List, [], ◌∷◌, ◌++◌}
@@ -8,7 +8,7 @@ use native.Mathlib.Nat.{mul-le-mul_right}
 use lib.ListN.{length}
 use lib.Dec.{T, ltb, eqb, lt→ltb, eqb→eq}
 use mir.Facts.{yes_and, not_T}
-use Rattle.lifting.specs.Program.{Program, end, apply, FourFilter}
+use Rattle.lifting.specs.Program.{end, apply, FourFilter}
 use Rattle.lifting.specs.Valid.{not_in, places, valid}
 use Rattle.lifting.proofs.Uses.{valid_then}
 use Rattle.figures.specs.Figures.{core, square_filter, four_filter}

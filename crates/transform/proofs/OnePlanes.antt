@@ -1,20 +1,18 @@
 -- Exactly one set of planes gives a picture: inverse and forward undo each other, level by level, as a level's program and its undoing do
 -- and as grids and planes do.
-use Prim.Native.Nat.{ℕ, ◌*◌, ◌<◌}
-use mathlib.Core.Path.{◌≡◌, refl, sym, ◌∙◌, ap, subst}
-use mathlib.Core.Bool.{Bool}
+use Prim.Native.Nat.{ℕ, ◌*◌}
+use mathlib.Core.Path.{◌≡◌, sym, ◌∙◌, ap, subst}
 use mathlib.Core.List.{List}
 use native.Mathlib.Omega.{arith}
 use lib.Dec.{T}
 use lib.IntN.{ℤ}
-use Rattle.lifting.specs.Program.{run, undo}
 use Rattle.lifting.specs.Row.{Row}
 use Rattle.lifting.specs.Valid.{valid}
 use Rattle.lifting.proofs.Reverse.{undo-run, run-undo, row-run, row-undo}
 use Rattle.picture.specs.declared.size.Size.{Size}
 use Rattle.picture.specs.Sizes.{Sized, macroblocks}
 use Rattle.picture.specs.Planes.{Planes, PlanesOf}
-use Rattle.transform.specs.Grids.{first_grid, second_grid, dc_of, low_of, view_of, high_of}
+use Rattle.transform.specs.Grids.{first_grid, second_grid}
 use Rattle.picture.specs.declared.mode.Mode.{Mode}
 use Rattle.transform.specs.Transform.{level_one, level_two, quarter_by, inverse_by, second_undone, first_undone, forward_by}
 use Rattle.picture.specs.Modes.{mode_of}

@@ -1,5 +1,5 @@
 -- The definitions at small pictures: bench values of 01, how far a DC number reaches, and grids of one column or one row of squares. The pictures are computed.
-use Prim.Native.Nat.{ℕ, zero, suc, ◌+◌, ◌-◌, ◌*◌, ◌/◌, ◌%◌, ◌≤◌, ◌<◌}
+use Prim.Native.Nat.{ℕ, zero, suc, ◌+◌, ◌-◌, ◌*◌, ◌/◌, ◌%◌, ◌≤◌}
 use mathlib.Core.Path.{◌≡◌, refl, sym, subst}
 use mathlib.Core.Bool.{Bool, true, false, cond, ◌&&◌, ◌||◌, beq}
 use mathlib.Core.List.{List, [], ◌∷◌, ◌++◌}
@@ -14,7 +14,7 @@ use Rattle.lifting.specs.Tests.{all}
 use Rattle.lifting.specs.Row.{Row}
 use Rattle.lifting.specs.Valid.{places}
 use Rattle.lifting.specs.Wrap.{wrap}
-use Rattle.lifting.specs.Program.{end, at, run, line, value, get, put, ◌then◌, each, line_by, run_by, value_by}
+use Rattle.lifting.specs.Program.{end, at, run, get, put, ◌then◌, each, line_by, run_by, value_by}
 use Rattle.figures.specs.Figures.{hadamard, odd, odd_odd, core, core_stages, rotation, scale, post_hadamard, post_odd_odd, four_filter, square_filter}
 use Rattle.picture.proofs.CheckLaws.{sized, shaped}
 use Rattle.picture.specs.declared.size.Size.{Size}

@@ -12,13 +12,13 @@ use Rattle.lifting.specs.Program.{Program, at, run, ◌then◌, run_by}
 use Rattle.lifting.proofs.Compose.{run_then}
 use Rattle.lifting.proofs.Reverse.{length-put}
 use Rattle.picture.specs.declared.size.Size.{Size}
-use Rattle.picture.specs.Sizes.{Sized, macroblocks, Shape}
+use Rattle.picture.specs.Sizes.{macroblocks, Shape}
 use Rattle.transform.specs.Level.{core_at, square_filter_at, four_filter_at, corner_filter_at, level}
 use Rattle.picture.specs.Planes.{Planes}
 use Rattle.transform.specs.Grids.{second_grid}
 use Rattle.transform.specs.Transform.{inverse_by, inverse}
 use Rattle.transform.specs.Windows.{InNoWindow}
-use Rattle.transform.specs.Claims.{WholePictures, WholePictureClaim}
+use Rattle.transform.specs.Claims.{WholePictureClaim}
 use Rattle.transform.proofs.Grid.{length-grid}
 use Rattle.transform.proofs.Stages.{OfCores, OfFilters, of-cores, of-filters}
 use Rattle.transform.proofs.OnePlanes.{one-set-of-planes}

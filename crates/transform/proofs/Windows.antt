@@ -17,7 +17,7 @@ use Rattle.transform.specs.Level.{cell, level}
 use Rattle.picture.specs.Planes.{Planes}
 use Rattle.transform.specs.Grids.{grid, coefficients, first_grid, second_grid}
 use Rattle.picture.specs.declared.size.Size.{Size}
-use Rattle.picture.specs.Sizes.{Sized, macroblocks, Shape}
+use Rattle.picture.specs.Sizes.{Shape}
 use Rattle.picture.specs.Modes.{filters_one, filters_two}
 use Rattle.transform.specs.Transform.{quarter_by, quarter, inverse_by, inverse}
 use Rattle.transform.specs.Windows.{Near, Window, high_margin, low_margin, BlockWindow, MacroblockWindow, AlikeInBlock, AlikeInMacroblock, InNoWindow}

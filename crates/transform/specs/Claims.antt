@@ -1,5 +1,5 @@
 -- Demand 3, one claim over whole pictures: exactly one set of planes gives a picture, and what differs between two sets changes samples in its windows alone.
-use Rattle.std.specs.Prelude.{ℕ, ◌+◌, ◌*◌, ◌≤◌, ◌<◌, ◌≡◌, List, ℤ}
+use Rattle.std.specs.Prelude.{ℕ, ◌+◌, ◌*◌, ◌<◌, ◌≡◌, List, ℤ}
 use Rattle.lifting.specs.Program.{at}
 use Rattle.lifting.specs.Row.{Row}
 use Rattle.picture.specs.declared.size.Size.{Size}
