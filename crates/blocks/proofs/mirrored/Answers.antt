@@ -1,14 +1,13 @@
 -- Each number is read back as it was.
 use mathlib.Core.Path.{ap}
 use Rattle.figures.specs.Block.{flat}
-use Rattle.blocks.specs.Quads.{quartered}
+use Rattle.blocks.specs.Quads.{mirrored}
 use Rattle.figures.proofs.Parts.{told}
 use Rattle.blocks.proofs.Blocks.{quads}
-use Rattle.blocks.proofs.quartered.Statement.{statement}
-use Rattle.blocks.proofs.quartered.Tie as tie
+use Rattle.blocks.proofs.mirrored.Goals as goal
 
-returns : tie.Need-returns
-unfolding flat quartered
+pub returns : goal.returns
+unfolding flat mirrored
 returns c12 =
     let c11 = c12.before in
     let c10 = c11.before in
@@ -18,7 +17,4 @@ returns c12 =
     let c6 = c7.before in
     let c5 = c6.before in
     let v = c5.before.before.before.before.before.args.f in
-    ap quartered (quads v (told _ c5.struct_told.given) (told _ c6.struct-told2.given) (told _ c9.struct-told5.given) (told _ c10.struct-told6.given))
-
-pub quartered-spec : {M : Type 1} → statement M
-quartered-spec = tie.close (tie.spec returns)
+    ap mirrored (quads v (told _ c5.struct_told-1.given) (told _ c6.struct_told-2-1.given) (told _ c7.struct_told-3-1.given) (told _ c8.struct_told-4-1.given))
