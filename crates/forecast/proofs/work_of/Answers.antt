@@ -1,7 +1,6 @@
 -- The uses of both levels added, and 1024 bytes for each macroblock.
 use Prim.Native.Nat.{ℕ, ◌+◌, ◌*◌}
 use mathlib.Core.Path.{◌≡◌}
-use borrow.Author.Rules.{rules}
 use Rattle.picture.specs.declared.mode.Mode.{Mode}
 use Rattle.picture.specs.declared.size.Size.{Size}
 use Rattle.picture.specs.Sizes.{macroblocks}
@@ -11,8 +10,7 @@ use Rattle.forecast.specs.declared.LevelUses.{LevelUses}
 use Rattle.forecast.specs.declared.Work.{Work}
 use Rattle.forecast.specs.Forecast.{work_by}
 use Rattle.forecast.specs.Parts.{uses_in}
-use Rattle.forecast.proofs.work_of.Statement.{statement}
-use Rattle.forecast.proofs.work_of.Tie as tie
+use Rattle.forecast.proofs.work_of.Goals as goal
 
 abbrev together : LevelUses → LevelUses → ℕ → Work
 together one two n =
@@ -30,17 +28,11 @@ both : (mode : Mode) (size : Size) {one two : LevelUses} {p q n : ℕ} → one �
 unfolding work_by
 both mode size e f g h k = rw (e, f, g, h, k)
 
-returns : tie.Need-returns
+pub returns : goal.returns
 returns c =
     let n = c.before.before.before.before.before.before.before in
     let two = n.before in
     let b = two.before in
     let one = b.before in
     let a = one.before.args in
-    both a.mode a.size one.level-uses.ensures.0 two.level-uses2.ensures.0 b.blocks2.ensures.0 b.blocks2.ensures.1 n.macroblocks.ensures.0
-
-pub work-of-spec : {M : Type 1} → statement M
-work-of-spec =
-    tie.close
-    (tie.spec (λ c κs. search rules) (λ c κs. search rules) (λ c κs. search rules) (λ c κs. search rules) (λ c. search rules) (λ c. search rules) (λ c. search rules)
-    (λ c. search rules) returns)
+    both a.mode a.size one.level_uses-one.ensures.0 two.level_uses-two.ensures.0 b.blocks-blocks.ensures.0 b.blocks-blocks.ensures.1 n.macroblocks-bytes.ensures.0
