@@ -80,18 +80,18 @@ told-two t u k l e f = adds_two t u k l (ap (λ x. u || x) e) f
 
 -- what the two pairs' calls ensure and tell, as the six lines
 module _ {t : Bool} {x y z w k l m n : ℤ} {p q : Bool} where
-  pub pairs : (k ∷ n ∷ [] ≡ run pair_scale (x ∷ w ∷ [])) × (p ≡ t && wraps pair_scale (x ∷ w ∷ []))
-      → (l ∷ m ∷ [] ≡ run pair_scale (y ∷ z ∷ [])) × (q ≡ t && wraps pair_scale (y ∷ z ∷ []))
+  pub pairs : record { done : k ∷ n ∷ [] ≡ run pair_scale (x ∷ w ∷ []); told : p ≡ t && wraps pair_scale (x ∷ w ∷ []) }
+      → record { done : l ∷ m ∷ [] ≡ run pair_scale (y ∷ z ∷ []); told : q ≡ t && wraps pair_scale (y ∷ z ∷ []) }
       → Goes t last_lines (x ∷ y ∷ z ∷ w ∷ []) (k ∷ l ∷ m ∷ n ∷ []) (λ u. u || p || q)
   pairs e f = record {
-    gives = ap (λ o. across o (l ∷ m ∷ [])) e.0 ∙ ap (across (run pair_scale (x ∷ w ∷ []))) f.0 ∙ pairs-run x y z w;
-    tells = λ u. told-two t u _ _ e.1 f.1 ∙ ap (λ h. u || (t && h)) (sym (pairs-wrap x y z w));
+    gives = ap (λ o. across o (l ∷ m ∷ [])) e.done ∙ ap (across (run pair_scale (x ∷ w ∷ []))) f.done ∙ pairs-run x y z w;
+    tells = λ u. told-two t u _ _ e.told f.told ∙ ap (λ h. u || (t && h)) (sym (pairs-wrap x y z w));
   }
 
-  pub unpairs : (k ∷ n ∷ [] ≡ undo pair_scale (x ∷ w ∷ [])) × (p ≡ t && undo_wraps pair_scale (x ∷ w ∷ []))
-      → (l ∷ m ∷ [] ≡ undo pair_scale (y ∷ z ∷ [])) × (q ≡ t && undo_wraps pair_scale (y ∷ z ∷ []))
+  pub unpairs : record { done : k ∷ n ∷ [] ≡ undo pair_scale (x ∷ w ∷ []); told : p ≡ t && undo_wraps pair_scale (x ∷ w ∷ []) }
+      → record { done : l ∷ m ∷ [] ≡ undo pair_scale (y ∷ z ∷ []); told : q ≡ t && undo_wraps pair_scale (y ∷ z ∷ []) }
       → Comes t last_lines (x ∷ y ∷ z ∷ w ∷ []) (k ∷ l ∷ m ∷ n ∷ []) (λ u. u || p || q)
   unpairs e f = record {
-    gives = ap (λ o. across o (l ∷ m ∷ [])) e.0 ∙ ap (across (undo pair_scale (x ∷ w ∷ []))) f.0 ∙ pairs-undo x y z w;
-    tells = λ u. told-two t u _ _ e.1 f.1 ∙ ap (λ h. u || (t && h)) (sym (pairs-undo-wrap x y z w));
+    gives = ap (λ o. across o (l ∷ m ∷ [])) e.done ∙ ap (across (undo pair_scale (x ∷ w ∷ []))) f.done ∙ pairs-undo x y z w;
+    tells = λ u. told-two t u _ _ e.told f.told ∙ ap (λ h. u || (t && h)) (sym (pairs-undo-wrap x y z w));
   }

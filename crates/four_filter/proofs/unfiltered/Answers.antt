@@ -2,15 +2,13 @@
 use Prim.Native.Nat.{◌<◌}
 use mathlib.Core.Path.{◌≡◌}
 use mathlib.Core.List.{List, [], ◌∷◌}
-use borrow.Author.Rules.{rules}
 use lib.IntN.{ℤ}
 use lib.Signed.{mag}
 use Rattle.lifting.specs.Program.{Program, at, undo}
 use Rattle.lifting.proofs.Bits.{back}
 use Rattle.figures.specs.Block.{four}
 use Rattle.figures.proofs.Parts.{kept}
-use Rattle.four_filter.proofs.unfiltered.Statement.{statement}
-use Rattle.four_filter.proofs.unfiltered.Tie as tie
+use Rattle.four_filter.proofs.unfiltered.Goals as goal
 
 abbrev Small : ℤ → Type 0
 Small x = mag x < 2147483648
@@ -22,15 +20,12 @@ four_undone : {X Y Z W O : Type 0} {a b c d : ℤ} (s : Program) (v : List ℤ) 
 four_undone s v e f g h t q =
     rw (back t.0.1, back t.1.0.1, back t.1.1.0.1, back t.1.1.1.0.1, q, back e, back f, back g, back h)
 
-returns : tie.Need-returns
+pub returns : goal.returns
 returns c =
     let f = c.before.before.before.before in
     let a4 = f.before in
     let a3 = a4.before in
     let a2 = a3.before in
     let a1 = a2.before in
-    four_undone _ a1.before.args.t1 a1.undo-four-filter-arg.given a2.undo-four-filter-arg2.given a3.undo-four-filter-arg3.given a4.undo-four-filter-arg4.given
-    c.struct-told4.given f.undo-four-filter.ensures
-
-pub unfiltered-spec : {M : Type 1} → statement M
-unfiltered-spec = tie.close (tie.spec (λ c. search rules) (λ c. search rules) (λ c. search rules) (λ c. search rules) (λ c κs. tt) returns)
+    four_undone _ a1.before.args.v a1.undo_four_filter-arg-1.given a2.undo_four_filter-arg-2-1.given a3.undo_four_filter-arg-3-1.given a4.undo_four_filter-arg-4-1.given
+    c.struct_told-4-1.given f.undo_four_filter-f.ensures

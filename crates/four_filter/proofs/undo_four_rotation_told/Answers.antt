@@ -1,13 +1,11 @@
 -- The first lines of Figure 4.13 from the last to the first, each by what its calls ensure; the rotation among them by what it tells.
-use borrow.Author.Rules.{rules}
 use Rattle.lifting.specs.Program.{back, get, put}
 use Rattle.lifting.proofs.Traces.{number, rounded, plus, minus, ◌⇐◌, ◌◂◌, at_start, undone, four_read}
 use Rattle.figures.specs.Pieces.{four_rotation}
 use Rattle.figures.proofs.Parts.{pair}
-use Rattle.four_filter.proofs.undo_four_rotation_told.Statement.{statement}
-use Rattle.four_filter.proofs.undo_four_rotation_told.Tie as tie
+use Rattle.four_filter.proofs.undo_four_rotation_told.Goals as goal
 
-returns : tie.Need-returns
+pub returns : goal.returns
 unfolding back get put four_rotation
 returns c37 =
     let c22 = c37.before.before.before.before.before.before.before.before.before.before.before.before.before.before.before in
@@ -26,13 +24,10 @@ returns c37 =
     let f = e.ranges in
     undone e.args.tell four_rotation _ (four_read f.a f.b f.c f.d)
     (at_start
-    ⇐ minus (rounded number c1.rounded-told.ensures) c3.sub_told.ensures
-    ⇐ minus (rounded number c4.rounded-told2.ensures) c6.sub-told2.ensures
-    ◂ (pair c12.struct-told5.given c9.undo-rotation-told.ensures.0, c9.undo-rotation-told.ensures.1)
-    ⇐ plus (rounded number c11.rounded-told3.ensures) c14.add-told.ensures
-    ⇐ plus (rounded number c15.rounded-told4.ensures) c18.add-told2.ensures
-    ⇐ minus number c20.sub-told3.ensures
-    ⇐ minus number c22.sub-told4.ensures)
-
-pub undo-four-rotation-told-spec : {M : Type 1} → statement M
-undo-four-rotation-told-spec = tie.close (tie.spec (λ c κs. search rules) (λ c κs. tt) (λ c κs. search rules) (λ c κs. tt) (λ c κs. tt) (λ c κs. search rules) (λ c κs. tt) (λ c κs. search rules) (λ c κs. tt) (λ c κs. tt) (λ c κs. tt) returns)
+    ⇐ minus (rounded number c1.rounded_told-e1.ensures) c3.sub_told-c1.ensures
+    ⇐ minus (rounded number c4.rounded_told-e2.ensures) c6.sub_told-d1.ensures
+    ◂ record { done = pair c12.struct_told-5-1.given c9.undo_rotation_told-turned.ensures.done; told = c9.undo_rotation_told-turned.ensures.told }
+    ⇐ plus (rounded number c11.rounded_told-e3.ensures) c14.add_told-c2.ensures
+    ⇐ plus (rounded number c15.rounded_told-e4.ensures) c18.add_told-d2.ensures
+    ⇐ minus number c20.sub_told-b1.ensures
+    ⇐ minus number c22.sub_told-a1.ensures)

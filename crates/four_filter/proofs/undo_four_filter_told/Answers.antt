@@ -5,10 +5,9 @@ use Rattle.figures.specs.Figures.{four_filter}
 use Rattle.figures.specs.Pieces.{four_rotation}
 use Rattle.figures.proofs.Parts.{pair}
 use Rattle.four_filter.proofs.Pieces.{last_lines, unpairs}
-use Rattle.four_filter.proofs.undo_four_filter_told.Statement.{statement}
-use Rattle.four_filter.proofs.undo_four_filter_told.Tie as tie
+use Rattle.four_filter.proofs.undo_four_filter_told.Goals as goal
 
-returns : tie.Need-returns
+pub returns : goal.returns
 unfolding ◌then◌ four_rotation last_lines four_filter
 returns c13 =
     let c9 = c13.before.before.before.before in
@@ -18,10 +17,7 @@ returns c13 =
     let c1 = c2.before in
     let e = c1.before in
     let f = e.ranges in
-    let o = c1.undo-pair-scale-told.ensures in
-    let i = c2.undo-pair-scale-told2.ensures in
+    let o = c1.undo_pair_scale_told-outer.ensures in
+    let i = c2.undo_pair_scale_told-inner.ensures in
     undone e.args.tell four_filter _ (four_read f.a f.b f.c f.d)
-    (and-back (unpairs (pair c5.struct_told.given o.0, o.1) (pair c6.struct-told2.given i.0, i.1)) (uncalled c9.undo-four-rotation-told.ensures))
-
-pub undo-four-filter-told-spec : {M : Type 1} → statement M
-undo-four-filter-told-spec = tie.close (tie.spec (λ c κs. tt) (λ c κs. tt) (λ c κs. tt) returns)
+    (and-back (unpairs record { done = pair c5.struct_told-1.given o.done; told = o.told } record { done = pair c6.struct_told-2-1.given i.done; told = i.told }) (uncalled c9.undo_four_rotation_told-v.ensures))

@@ -5,10 +5,9 @@ use Rattle.figures.specs.Figures.{four_filter}
 use Rattle.figures.specs.Pieces.{four_rotation}
 use Rattle.figures.proofs.Parts.{pair, four}
 use Rattle.four_filter.proofs.Pieces.{last_lines, pairs}
-use Rattle.four_filter.proofs.four_filter_told.Statement.{statement}
-use Rattle.four_filter.proofs.four_filter_told.Tie as tie
+use Rattle.four_filter.proofs.four_filter_told.Goals as goal
 
-returns : tie.Need-returns
+pub returns : goal.returns
 unfolding ◌then◌ four_rotation last_lines four_filter
 returns c15 =
     let c12 = c15.before.before.before in
@@ -19,11 +18,8 @@ returns c15 =
     let c1 = c3.before.before in
     let e = c1.before in
     let f = e.ranges in
-    let v = c1.four-rotation-told.ensures in
-    let o = c5.pair-scale-told.ensures in
-    let i = c8.pair-scale-told2.ensures in
+    let v = c1.four_rotation_told-v.ensures in
+    let o = c5.pair_scale_told-outer.ensures in
+    let i = c8.pair_scale_told-inner.ensures in
     ran e.args.tell four_filter _ (four_read f.a f.b f.c f.d)
-    (and_then (called (four c3.struct_told.given v.0, v.1)) (pairs (pair c11.struct-told5.given o.0, o.1) (pair c12.struct-told6.given i.0, i.1)))
-
-pub four-filter-told-spec : {M : Type 1} → statement M
-four-filter-told-spec = tie.close (tie.spec (λ c κs. tt) (λ c κs. tt) (λ c κs. tt) returns)
+    (and_then (called record { done = four c3.struct_told-1.given v.done; told = v.told }) (pairs record { done = pair c11.struct_told-5-1.given o.done; told = o.told } record { done = pair c12.struct_told-6-1.given i.done; told = i.told }))
