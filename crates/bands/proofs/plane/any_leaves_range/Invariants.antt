@@ -1,0 +1,11 @@
+use Prim.Native.Nat.{◌≤◌}
+use mathlib.Core.Path.{◌≡◌}
+use mathlib.Core.List.{map}
+use lib.ListN.{length, take}
+use Rattle.step_sizes.specs.Steps.{step_of}
+use Rattle.step_sizes.specs.Levels.{restored}
+use Rattle.bands.specs.Bands.{any_out}
+use Rattle.bands.proofs.plane.any_leaves_range.Given as goal
+
+abbrev pub invariant-loop-i : goal.invariant-loop-i
+invariant-loop-i l = (l.i ≤ length l.levels) × (l.out ≡ any_out (map (restored (step_of l.index)) (take l.i l.levels)))
