@@ -20,14 +20,16 @@ use Rattle.blocks.proofs.Blocks.{some_back}
 pub quarter-run : (v w : Quads) → OnFours (run (hadamard (pos 1))) (run odd) (run odd) (run odd_odd) v w
     → (quartered w ≡ run quarter_stage (quartered v)) × (on_some (wraps (hadamard (pos 1))) (wraps odd) (wraps odd) (wraps odd_odd) v ≡ wraps quarter_stage (quartered v))
 unfolding get put quartered quarter_stage
-quarter-run v w e = ran true quarter_stage _ refl ((e.p, refl) ▸ (e.q, refl) ▸ (e.r, refl) ▸ (e.s, refl) ▸ at-end)
+quarter-run v w e =
+    let u = ran true quarter_stage _ refl (record { done = e.p; told = refl } ▸ record { done = e.q; told = refl } ▸ record { done = e.r; told = refl } ▸ record { done = e.s; told = refl } ▸ at-end) in
+    (u.done, u.told)
 
 pub quarter-undo : (v w : Quads) → OnFours (undo (hadamard (pos 1))) (undo odd) (undo odd) (undo odd_odd) v w
     → (quartered w ≡ undo quarter_stage (quartered v)) × (on_some (undo_wraps (hadamard (pos 1))) (undo_wraps odd) (undo_wraps odd) (undo_wraps odd_odd) v ≡ undo_wraps quarter_stage (quartered v))
 unfolding get put quartered quarter_stage
 quarter-undo v w e =
-    let u = undone true quarter_stage _ refl (at_start ◂ (e.s, refl) ◂ (e.r, refl) ◂ (e.q, refl) ◂ (e.p, refl)) in
-    (u.0, some_back (undo_wraps (hadamard (pos 1))) (undo_wraps odd) (undo_wraps odd) (undo_wraps odd_odd) v ∙ u.1)
+    let u = undone true quarter_stage _ refl (at_start ◂ record { done = e.s; told = refl } ◂ record { done = e.r; told = refl } ◂ record { done = e.q; told = refl } ◂ record { done = e.p; told = refl }) in
+    (u.done, some_back (undo_wraps (hadamard (pos 1))) (undo_wraps odd) (undo_wraps odd) (undo_wraps odd_odd) v ∙ u.told)
 
 -- the uses in the order of the figure's second stage
 turned : (f : List ℤ → Bool) (v : Quads) → on_any f v ≡ f (list v.p) || f (list v.s) || f (list v.q) || f (list v.r)
@@ -40,15 +42,15 @@ pub mirrored-run : (v w : Quads) → OnEach (run (hadamard (pos 0))) v w
     → (mirrored w ≡ run core_mirrored_stage (mirrored v)) × (on_any (wraps (hadamard (pos 0))) v ≡ wraps core_mirrored_stage (mirrored v))
 unfolding get put mirrored core_mirrored_stage
 mirrored-run v w e =
-    let u = ran true core_mirrored_stage _ refl ((e.p, refl) ▸ (e.s, refl) ▸ (e.q, refl) ▸ (e.r, refl) ▸ at-end) in
-    (u.0, turned (wraps (hadamard (pos 0))) v ∙ u.1)
+    let u = ran true core_mirrored_stage _ refl (record { done = e.p; told = refl } ▸ record { done = e.s; told = refl } ▸ record { done = e.q; told = refl } ▸ record { done = e.r; told = refl } ▸ at-end) in
+    (u.done, turned (wraps (hadamard (pos 0))) v ∙ u.told)
 
 pub mirrored-undo : (v w : Quads) → OnEach (undo (hadamard (pos 0))) v w
     → (mirrored w ≡ undo core_mirrored_stage (mirrored v)) × (on_any (undo_wraps (hadamard (pos 0))) v ≡ undo_wraps core_mirrored_stage (mirrored v))
 unfolding get put mirrored core_mirrored_stage
 mirrored-undo v w e =
-    let u = undone true core_mirrored_stage _ refl (at_start ◂ (e.r, refl) ◂ (e.q, refl) ◂ (e.s, refl) ◂ (e.p, refl)) in
-    (u.0, turned_back (undo_wraps (hadamard (pos 0))) v ∙ u.1)
+    let u = undone true core_mirrored_stage _ refl (at_start ◂ record { done = e.r; told = refl } ◂ record { done = e.q; told = refl } ◂ record { done = e.s; told = refl } ◂ record { done = e.p; told = refl }) in
+    (u.done, turned_back (undo_wraps (hadamard (pos 0))) v ∙ u.told)
 
 pub stages_run : (v : List ℤ) → run core_mirrored_stage (run quarter_stage v) ≡ run core_stages v
 stages_run v = sym (run_then quarter_stage core_mirrored_stage v) ∙ ap (λ p. run p v) core_stages_lem

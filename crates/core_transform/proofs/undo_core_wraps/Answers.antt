@@ -5,10 +5,9 @@ use Rattle.lifting.specs.Wraps.{undo_wraps}
 use Rattle.figures.specs.Figures.{core}
 use Rattle.figures.specs.Pieces.{quarter_stage, core_mirrored_stage}
 use Rattle.core_transform.proofs.Stages.{quarter-undo, mirrored-undo, undo_stages_wrap}
-use Rattle.core_transform.proofs.undo_core_wraps.Statement.{statement}
-use Rattle.core_transform.proofs.undo_core_wraps.Tie as tie
+use Rattle.core_transform.proofs.undo_core_wraps.Goals as goal
 
-returns : tie.Need-returns
+pub returns : goal.returns
 unfolding undo_wraps core
 returns c7 =
     let c5 = c7.before.before in
@@ -16,11 +15,8 @@ returns c7 =
     let c3 = c4.before in
     let c2 = c3.before in
     let c1 = c2.before in
-    let first = mirrored-undo _ _ c2.hadamards-told.ensures.1.0 in
-    let last = quarter-undo _ _ c5.undo-quarter-stage-told.ensures.0 in
+    let first = mirrored-undo _ _ c2.hadamards_told-first.ensures.undone in
+    let last = quarter-undo _ _ c5.undo_quarter_stage_told-last.ensures.done in
     let left = c4.quarters.ensures ∙ c3.mirrored.ensures ∙ first.0 ∙ ap (undo core_mirrored_stage) c1.split.ensures in
-    rw (c2.hadamards-told.ensures.1.1.1 ∙ first.1 ∙ ap (undo_wraps core_mirrored_stage) c1.split.ensures, c5.undo-quarter-stage-told.ensures.1 ∙ last.1 ∙ ap (undo_wraps quarter_stage) left)
+    rw (c2.hadamards_told-first.ensures.untold ∙ first.1 ∙ ap (undo_wraps core_mirrored_stage) c1.split.ensures, c5.undo_quarter_stage_told-last.ensures.told ∙ last.1 ∙ ap (undo_wraps quarter_stage) left)
     (undo_stages_wrap _)
-
-pub undo-core-wraps-spec : {M : Type 1} → statement M
-undo-core-wraps-spec = tie.close (tie.spec (λ c κs. tt) (λ c κs. tt) (λ c κs. tt) (λ c κs. tt) (λ c κs. tt) returns)
