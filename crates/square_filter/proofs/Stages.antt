@@ -19,14 +19,16 @@ use Rattle.blocks.proofs.Blocks.{some_back}
 pub mirrored-run : (o : Operator) (s : Program) (v w : Quads) → OnEach (run s) v w
     → (mirrored w ≡ run (mirrored_stage o s) (mirrored v)) × (on_any (wraps s) v ≡ wraps (mirrored_stage o s) (mirrored v))
 unfolding get put mirrored mirrored_stage
-mirrored-run o s v w e = ran true (mirrored_stage o s) _ refl ((e.p, refl) ▸ (e.q, refl) ▸ (e.r, refl) ▸ (e.s, refl) ▸ at-end)
+mirrored-run o s v w e =
+    let u = ran true (mirrored_stage o s) _ refl (record { done = e.p; told = refl } ▸ record { done = e.q; told = refl } ▸ record { done = e.r; told = refl } ▸ record { done = e.s; told = refl } ▸ at-end) in
+    (u.done, u.told)
 
 pub mirrored-undo : (o : Operator) (s : Program) (v w : Quads) → OnEach (undo s) v w
     → (mirrored w ≡ undo (mirrored_stage o s) (mirrored v)) × (on_any (undo_wraps s) v ≡ undo_wraps (mirrored_stage o s) (mirrored v))
 unfolding get put mirrored mirrored_stage
 mirrored-undo o s v w e =
-    let u = undone true (mirrored_stage o s) _ refl (at_start ◂ (e.s, refl) ◂ (e.r, refl) ◂ (e.q, refl) ◂ (e.p, refl)) in
-    (u.0, some_back (undo_wraps s) (undo_wraps s) (undo_wraps s) (undo_wraps s) v ∙ u.1)
+    let u = undone true (mirrored_stage o s) _ refl (at_start ◂ record { done = e.s; told = refl } ◂ record { done = e.r; told = refl } ◂ record { done = e.q; told = refl } ◂ record { done = e.p; told = refl }) in
+    (u.done, some_back (undo_wraps s) (undo_wraps s) (undo_wraps s) (undo_wraps s) v ∙ u.told)
 
 abbrev pub first : Program
 first = mirrored_stage Hadamard (hadamard (pos 0))

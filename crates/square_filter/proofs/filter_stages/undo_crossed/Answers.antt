@@ -7,10 +7,9 @@ use Rattle.figures.specs.Pieces.{crossed_stage}
 use Rattle.blocks.specs.Quads.{mirrored}
 use Rattle.figures.proofs.Parts.{told, pair, four}
 use Rattle.blocks.proofs.Blocks.{quads}
-use Rattle.square_filter.proofs.filter_stages.undo_crossed.Statement.{statement}
-use Rattle.square_filter.proofs.filter_stages.undo_crossed.Tie as tie
+use Rattle.square_filter.proofs.filter_stages.undo_crossed.Goals as goal
 
-returns : tie.Need-returns
+pub returns : goal.returns
 unfolding get put crossed_stage mirrored
 returns c45 =
     let c44 = c45.before in
@@ -58,18 +57,15 @@ returns c45 =
     let c2 = c3.before in
     let c1 = c2.before in
     let v = c1.before.before.before.before.before.args.v in
-    let done = undone true crossed_stage _ (ap mirrored (quads v (told _ c10.struct-told7.given) (told _ c7.struct-told5.given) (told _ c4.struct-told3.given) (told _ c1.struct_told.given)))
+    let done = undone true crossed_stage _ (ap mirrored (quads v (told _ c10.struct_told-7-1.given) (told _ c7.struct_told-5-1.given) (told _ c4.struct_told-3-1.given) (told _ c1.struct_told-1.given)))
     (at_start
-    ◂ (pair c13.struct-told9.given c3.undo-scale.ensures, refl)
-    ◂ (pair c14.struct-told10.given c6.undo-scale2.ensures, refl)
-    ◂ (pair c15.struct-told11.given c9.undo-scale3.ensures, refl)
-    ◂ (pair c16.struct-told12.given c12.undo-scale4.ensures, refl)
-    ◂ (four c33.struct-told24.given c17.undo-post-odd-odd.ensures, refl)
-    ◂ (pair c35.struct-told26.given c20.undo-rotation.ensures, refl)
-    ◂ (pair c31.struct-told22.given c23.undo-rotation2.ensures, refl)
-    ◂ (pair c40.struct-told31.given c26.undo-rotation3.ensures, refl)
-    ◂ (pair c32.struct-told23.given c29.undo-rotation4.ensures, refl)) in
-    done.0
-
-pub undo-crossed-spec : {M : Type 1} → statement M
-undo-crossed-spec = tie.close (tie.spec (λ c κs. tt) (λ c κs. tt) (λ c κs. tt) (λ c κs. tt) (λ c κs. tt) (λ c κs. tt) (λ c κs. tt) (λ c κs. tt) (λ c κs. tt) returns)
+    ◂ record { done = pair c13.struct_told-9-1.given c3.undo_scale-fk.ensures; told = refl }
+    ◂ record { done = pair c14.struct_told-10-1.given c6.undo_scale-el.ensures; told = refl }
+    ◂ record { done = pair c15.struct_told-11-1.given c9.undo_scale-bo.ensures; told = refl }
+    ◂ record { done = pair c16.struct_told-12-1.given c12.undo_scale-ap.ensures; told = refl }
+    ◂ record { done = four c33.struct_told-24-1.given c17.undo_post_odd_odd-klop.ensures; told = refl }
+    ◂ record { done = pair c35.struct_told-26-1.given c20.undo_rotation-gc.ensures; told = refl }
+    ◂ record { done = pair c31.struct_told-22-1.given c23.undo_rotation-hd.ensures; told = refl }
+    ◂ record { done = pair c40.struct_told-31-1.given c26.undo_rotation-ji.ensures; told = refl }
+    ◂ record { done = pair c32.struct_told-23-1.given c29.undo_rotation-nm.ensures; told = refl }) in
+    done.done

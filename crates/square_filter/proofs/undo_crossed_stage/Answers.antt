@@ -1,0 +1,8 @@
+-- The block's fours, the stage on them, and the block of them.
+use mathlib.Core.Path.{◌∙◌, ap}
+use Rattle.lifting.specs.Program.{undo}
+use Rattle.figures.specs.Pieces.{crossed_stage}
+use Rattle.square_filter.proofs.undo_crossed_stage.Goals as goal
+
+pub returns : goal.returns
+returns c3 = let c2 = c3.before in let c1 = c2.before in c3.mirrored.ensures ∙ c2.undo_crossed.ensures ∙ ap (undo crossed_stage) c1.split.ensures
