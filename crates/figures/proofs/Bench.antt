@@ -1,7 +1,7 @@
 -- The values of both tables hold: both sides of every entry compute to the same numbers.
 use mathlib.Core.Path.{refl}
 use Rattle.lifting.specs.Wrap.{wrap}
-use Rattle.lifting.specs.Program.{run, line, value, get, put, line_by, run_by, value_by}
+use Rattle.lifting.specs.Program.{get, put, line_by, run_by, value_by}
 use Rattle.figures.specs.Figures.{hadamard, odd, odd_odd, rotation, scale, post_hadamard, post_odd_odd, four_filter, square_filter, core, core_stages}
 use Rattle.figures.specs.Bench.{StarredHold}
 use Rattle.figures.specs.Reference.{ReferenceHold}

@@ -1,5 +1,5 @@
 -- Blocks and fours as lists. A block of four rows of four numbers is read as a row of sixteen: coefficient k is row k div 4, column k mod 4 (01, "Where the steps come from").
-use Rattle.std.specs.Prelude.{ℕ, List, [], ◌∷◌, ◌++◌, get_or, ℤ, pos}
+use Rattle.std.specs.Prelude.{List, [], ◌∷◌, ◌++◌, get_or, ℤ}
 use Rattle.lifting.specs.Program.{at}
 use Rattle.figures.specs.declared.Four.{Four}
 

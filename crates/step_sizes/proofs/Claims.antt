@@ -6,7 +6,7 @@ use native.Mathlib.Omega.{arith}
 use native.Mathlib.Nat.{suc-mul}
 use borrow.Author.Tests.{ltb-true, ltb-false}
 use lib.Dec.{ltb}
-use lib.IntN.{ℤ, pos, negsuc, neg_ℤ, nat_abs, one, ◌-ℤ◌, ◌*ℤ◌, *ℤ-one, neg_ℤ-neg_ℤ}
+use lib.IntN.{ℤ, pos, negsuc, neg_ℤ, nat_abs, one, ◌-ℤ◌, *ℤ-one, neg_ℤ-neg_ℤ}
 use mir.Val.{SFits}
 use mir.Syntax.{w32}
 use Rattle.step_sizes.specs.Steps.{step_of}

@@ -7,6 +7,6 @@ pub returns : goal.returns
 returns c =
     let v = c.before.args.s.now in
     let e = c.some_large.ensures in record {
-        within = λ h. small-within v (small_part v (e.small h) (omega arith) (omega arith));
-        row = fit_row v (λ i l r. e.fit i (omega arith) (omega arith));
+      within = λ h. small-within v (small_part v (e.small h) (omega arith) (omega arith));
+      row = fit_row v (λ i l r. e.fit i (omega arith) (omega arith));
     }

@@ -1,5 +1,5 @@
 -- Where the joined marks are below twice the limit, each mark is, and so no number that was looked at is above the limit.
-use Prim.Native.Nat.{ℕ, ◌+◌, ◌-◌, ◌*◌, ◌≤◌}
+use Prim.Native.Nat.{ℕ, ◌+◌, ◌*◌, ◌≤◌}
 use mathlib.Core.Path.{◌≡◌, subst}
 use native.Mathlib.Omega.{arith}
 use lib.IntN.{nat_abs}
@@ -34,8 +34,8 @@ returns c =
     let l = c.before in
     let x = l.before.args in
     let e : l.loop-i.i ≡ x.n = omega arith in record {
-        at_most = λ h. subst (λ (k : ℕ). AtMost x.limit x.s.now x.from (x.from + k)) e (l.loop-i.invariant.0 h);
-        fit = subst (λ (k : ℕ). Fit x.s.now x.from (x.from + k)) e l.loop-i.invariant.1;
+      at_most = λ h. subst (λ (k : ℕ). AtMost x.limit x.s.now x.from (x.from + k)) e (l.loop-i.invariant.0 h);
+      fit = subst (λ (k : ℕ). Fit x.s.now x.from (x.from + k)) e l.loop-i.invariant.1;
     }
 
 pub mark-joined-requires : goal.mark-joined-requires

@@ -1,6 +1,5 @@
-use Prim.Native.Nat.{◌+◌, ◌-◌, ◌*◌, ◌≤◌, ◌<◌}
+use Prim.Native.Nat.{◌+◌, ◌*◌, ◌≤◌, ◌<◌}
 use Rattle.large_numbers.specs.Small.{AtMost, Fit}
-use Rattle.large_numbers.proofs.Marks.{joined}
 use Rattle.large_numbers.proofs.joined_marks.Given as goal
 
 abbrev pub invariant-loop-i : goal.invariant-loop-i
