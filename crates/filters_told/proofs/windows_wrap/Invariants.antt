@@ -1,0 +1,7 @@
+use Prim.Native.Nat.{◌-◌}
+use Rattle.lifting.specs.Wraps.{undo_wraps}
+use Rattle.lifting.proofs.AnyUse.{Walked}
+use Rattle.filters_told.proofs.windows_wrap.Given as goal
+
+abbrev pub invariant-loop-j : goal.invariant-loop-j
+invariant-loop-j l = Walked undo_wraps (row_of l.p) l.grid l.j
