@@ -3,18 +3,14 @@ use Prim.Native.Nat.{ℕ, ◌+◌, ◌*◌, ◌-◌, ◌≤◌, ◌<◌}
 use mathlib.Core.Path.{◌≡◌, ◌∙◌, ap}
 use native.Mathlib.Omega.{arith}
 use lib.ListN.{length}
-use Rattle.lifting.specs.Program.{Program}
 use Rattle.lifting.specs.Wraps.{undo_wraps}
 use Rattle.lifting.specs.AnyUse.{any_use}
 use Rattle.lifting.proofs.AnyUse.{walk_begins, walk_goes_on, walk_finds, walk_ends}
 use Rattle.transform.specs.Level.{cell, four_filter_at, column_filters}
 use Rattle.grid.proofs.Rows.{row_inside}
+use Rattle.filters_told.proofs.column_wraps.Invariants.{use_of}
 use Rattle.filters_told.proofs.column_wraps.Goals as goal
 use Rattle.filters_told.proofs.column_wraps.Goals.{After-four_wraps, At-loop-j}
-
--- use j of the column
-abbrev use_of : ℕ → ℕ → ℕ → Program
-use_of p c j = four_filter_at (4 * p) (cell p (4 * j + 2) c)
 
 room : (c : At-loop-j) → c.loop-j.j < c.before.args.q - 1 → (c.loop-j.j + 1) * (16 * c.before.args.p) + 16 * c.before.args.p ≤ length c.before.args.grid.now
 room c h = let a = c.before.args in omega (arith, row_inside (c.loop-j.j + 1) a.q (16 * a.p) (omega arith))

@@ -1,20 +1,16 @@
 -- No use before i wraps; the walk ends at the first that does. The row lies inside the grid.
-use Prim.Native.Nat.{ℕ, ◌+◌, ◌*◌, ◌-◌, ◌≤◌}
+use Prim.Native.Nat.{ℕ, ◌+◌, ◌*◌, ◌≤◌}
 use mathlib.Core.Path.{◌≡◌, ◌∙◌, ap}
 use native.Mathlib.Omega.{arith}
 use native.Mathlib.Nat.{mul-le-mul_right}
 use lib.ListN.{length}
-use Rattle.lifting.specs.Program.{Program}
 use Rattle.lifting.specs.Wraps.{undo_wraps}
 use Rattle.lifting.specs.AnyUse.{any_use}
 use Rattle.lifting.proofs.AnyUse.{walk_begins, walk_goes_on, walk_finds, walk_ends}
 use Rattle.transform.specs.Level.{cell, four_filter_at, row_filters}
+use Rattle.filters_told.proofs.row_wraps.Invariants.{use_of}
 use Rattle.filters_told.proofs.row_wraps.Goals as goal
 use Rattle.filters_told.proofs.row_wraps.Goals.{After-four_wraps, Start}
-
--- use i of the row
-abbrev use_of : ℕ → ℕ → ℕ → Program
-use_of p r i = four_filter_at 1 (cell p r (4 * i + 2))
 
 room : (s : Start) → cell s.args.p s.args.r (4 * s.args.p) ≤ length s.args.grid.now
 room s = omega (arith, mul-le-mul_right (4 * s.args.p) s.requires.p_nonzero.3)

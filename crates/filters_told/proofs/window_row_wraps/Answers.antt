@@ -1,18 +1,14 @@
 -- No window before i wraps; the walk ends at the first that does.
-use Prim.Native.Nat.{ℕ, ◌+◌, ◌*◌, ◌-◌}
+use Prim.Native.Nat.{ℕ, ◌+◌, ◌*◌}
 use mathlib.Core.Path.{◌≡◌, ◌∙◌, ap}
 use native.Mathlib.Omega.{arith}
-use Rattle.lifting.specs.Program.{Program}
 use Rattle.lifting.specs.Wraps.{undo_wraps}
 use Rattle.lifting.specs.AnyUse.{any_use}
 use Rattle.lifting.proofs.AnyUse.{walk_begins, walk_goes_on, walk_finds, walk_ends}
 use Rattle.transform.specs.Level.{cell, square_filter_at}
+use Rattle.filters_told.proofs.window_row_wraps.Invariants.{window}
 use Rattle.filters_told.proofs.window_row_wraps.Goals as goal
 use Rattle.filters_told.proofs.window_row_wraps.Goals.{After-window_wraps}
-
--- window i of the row
-abbrev window : ℕ → ℕ → ℕ → Program
-window p j i = square_filter_at (4 * p) (cell p (4 * j + 2) (4 * i + 2))
 
 place : (p j i : ℕ) → (4 * j + 2) * (4 * p) + 2 + 4 * i ≡ cell p (4 * j + 2) (4 * i + 2)
 place p j i = omega arith

@@ -1,23 +1,18 @@
 -- No row of windows before j wraps; the walk ends at the first that does.
-use Prim.Native.Nat.{ℕ, ◌+◌, ◌*◌, ◌-◌}
+use Prim.Native.Nat.{◌+◌}
 use native.Mathlib.Omega.{arith}
-use Rattle.lifting.specs.Program.{Program, each}
 use Rattle.lifting.proofs.AnyUse.{walk_begins, walk_goes_on, walk_finds, walk_ends}
-use Rattle.transform.specs.Level.{cell, square_filter_at, square_filters}
+use Rattle.transform.specs.Level.{square_filters}
 use Rattle.grid.proofs.Rows.{row_inside}
 use Rattle.filters_told.proofs.windows_wrap.Goals as goal
-
--- the windows between rows j and j + 1 of the squares
-abbrev row_of : ℕ → ℕ → Program
-row_of p j = each (p - 1) (λ i. square_filter_at (4 * p) (cell p (4 * j + 2) (4 * i + 2)))
 
 pub window_row_wraps-requires : goal.window_row_wraps-requires
 window_row_wraps-requires c =
     let l = c.before in
     let a = l.before.args in
     record {
-        p_in_bounds = omega (arith, row_inside (l.loop-j.j + 1) a.q a.p (omega arith));
-        p_nonzero = (l.before.requires.p_nonzero.0, l.before.requires.p_nonzero.1, omega arith);
+      p_in_bounds = omega (arith, row_inside (l.loop-j.j + 1) a.q a.p (omega arith));
+      p_nonzero = (l.before.requires.p_nonzero.0, l.before.requires.p_nonzero.1, omega arith);
     }
 
 pub returns-then-window_row_wraps : goal.returns-then-window_row_wraps
