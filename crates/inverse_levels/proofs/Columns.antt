@@ -9,7 +9,7 @@ use native.Mathlib.Nat.{add-mul}
 use lib.Arith.{digits_mod}
 use lib.ListN.{length}
 use lib.IntN.{ℤ}
-use Rattle.lifting.specs.Program.{Program, end, FourFilter, run, undo, each, ◌then◌, run_by, undo_by}
+use Rattle.lifting.specs.Program.{Program, end, FourFilter, run, each, ◌then◌, run_by, undo_by}
 use Rattle.lifting.proofs.Compose.{run_then, undo_then}
 use Rattle.lifting.proofs.Between.{All, all_map, Like, none_left, like_all}
 use Rattle.lifting.proofs.Locality.{Agree, agree_refl, use_inside, use_outside}

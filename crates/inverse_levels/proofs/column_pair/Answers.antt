@@ -3,17 +3,14 @@ use Prim.Native.Nat.{ℕ, ◌+◌, ◌*◌, ◌-◌, ◌≤◌, ◌<◌}
 use mathlib.Core.Path.{◌≡◌, refl, ◌∙◌, ap}
 use native.Mathlib.Omega.{arith}
 use lib.ListN.{length}
-use Rattle.lifting.specs.Program.{Program, run, ◌then◌}
+use Rattle.lifting.specs.Program.{run, ◌then◌}
 use Rattle.transform.specs.Level.{cell, four_filter_at, column_filters}
 use Rattle.inverse_levels.proofs.Columns.{columns_apart}
 use Rattle.inverse_levels.proofs.Loops.{each_none, each_more}
 use Rattle.grid.proofs.Rows.{row_inside}
+use Rattle.inverse_levels.proofs.column_pair.Invariants.{pair}
 use Rattle.inverse_levels.proofs.column_pair.Goals as goal
 use Rattle.inverse_levels.proofs.column_pair.Goals.{At-loop-j}
-
--- the filters of columns c and c + 1 that begin in row 4 j + 2
-abbrev pair : ℕ → ℕ → ℕ → Program
-pair p c j = four_filter_at (4 * p) (cell p (4 * j + 2) c) then four_filter_at (4 * p) (cell p (4 * j + 2) (c + 1))
 
 room : (c : At-loop-j) → c.loop-j.j < c.before.args.q - 1 → (c.loop-j.j + 1) * (16 * c.before.args.p) + 16 * c.before.args.p ≤ length c.before.args.grid.now
 room c h = let a = c.before.args in omega (arith, row_inside (c.loop-j.j + 1) a.q (16 * a.p) (omega arith))

@@ -1,14 +1,12 @@
 -- After i windows the grid is what i uses make of it; each turn adds up to four.
 use Prim.Native.Nat.{ℕ, ◌+◌, ◌*◌, ◌-◌, ◌≤◌, ◌<◌}
 use mathlib.Core.Path.{◌≡◌, refl, ◌∙◌, ap}
-use mathlib.Core.Logic.{⊎_elim}
 use native.Mathlib.Omega.{arith}
-use Rattle.lifting.specs.Program.{each}
 use Rattle.transform.specs.Level.{cell, square_filter_at}
 use Rattle.inverse_levels.proofs.Loops.{each_none, few_squares}
 use Rattle.inverse_levels.proofs.Side.{each_plus}
 use Rattle.inverse_levels.proofs.square_filters_across.Goals as goal
-use Rattle.inverse_levels.proofs.square_filters_across.Goals.{Joined-n-gt4, Start}
+use Rattle.inverse_levels.proofs.square_filters_across.Goals.{Joined-n-gt4, Start, then-n-gt4, else-n-gt4}
 
 place : (j p i m : ℕ) → (4 * j + 2) * (4 * p) + 2 + 4 * i + 4 * m ≡ cell p (4 * j + 2) (4 * (i + m) + 2)
 place j p i m = omega arith
@@ -18,7 +16,7 @@ few s = few_squares s.args.j s.args.p (omega (arith, s.requires.p_nonzero)) (ome
 
 -- a turn's windows: at least one, at most four, and no more than are left
 windows : (c : Joined-n-gt4) → (0 < c.if-n-gt4.n) × (c.if-n-gt4.n ≤ 4) × (c.before.before.loop-i.i + c.if-n-gt4.n ≤ c.before.before.before.args.p - 1)
-windows c = ⊎_elim (λ w. (omega arith, omega arith, omega arith)) (λ w. (omega arith, omega arith, omega arith)) c.if-n-gt4.branch
+windows c = elim c.if-n-gt4.branch [ then-n-gt4 w ↦ (omega arith, omega arith, omega arith) | else-n-gt4 w ↦ (omega arith, omega arith, omega arith) ]
 
 pub overflow_mul-first : goal.overflow_mul-first
 overflow_mul-first c = omega (arith, few c, c.requires.p_nonzero)

@@ -1,5 +1,5 @@
 -- After k turns the grid is what k rows of windows make of it.
-use Prim.Native.Nat.{◌+◌, ◌-◌}
+use Prim.Native.Nat.{◌+◌}
 use mathlib.Core.Path.{◌≡◌, refl, ◌∙◌}
 use native.Mathlib.Omega.{arith}
 use Rattle.inverse_levels.proofs.Loops.{each_none, each_more}
@@ -20,8 +20,8 @@ square_filters_across-requires c =
     let s = l.before in
     let a = s.args in
     record {
-        p_in_bounds = omega (arith, row_inside (a.b + l.loop-k.k + 1) a.q a.p (omega (arith, s.requires.p_nonzero)), l.loop-k.invariant.1, s.requires.q_in_bounds);
-        p_nonzero = (s.requires.p_nonzero.0, s.requires.p_nonzero.1, omega (arith, s.requires.p_nonzero));
+      p_in_bounds = omega (arith, row_inside (a.b + l.loop-k.k + 1) a.q a.p (omega (arith, s.requires.p_nonzero)), l.loop-k.invariant.1, s.requires.q_in_bounds);
+      p_nonzero = (s.requires.p_nonzero.0, s.requires.p_nonzero.1, omega (arith, s.requires.p_nonzero));
     }
 
 pub loop-k-init : goal.loop-k-init

@@ -1,5 +1,4 @@
 -- After l turns the first l squares are filtered.
-use Prim.Native.Nat.{◌-◌}
 use mathlib.Core.Path.{sym, ◌∙◌, ap}
 use native.Mathlib.Omega.{arith}
 use Rattle.lifting.specs.Program.{get, run}
