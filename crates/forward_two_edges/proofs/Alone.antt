@@ -6,7 +6,7 @@ use native.Mathlib.Omega.{arith}
 use native.Mathlib.Decide.{ℕ_discrete}
 use native.Mathlib.Nat.{add-mul}
 use lib.Arith.{digits_div, digits_mod}
-use Rattle.lifting.specs.Program.{Program, end, apply, SquareFilter, FourFilter, at, ◌then◌}
+use Rattle.lifting.specs.Program.{Program, end, apply, SquareFilter, FourFilter, ◌then◌}
 use Rattle.lifting.proofs.Between.{All, none_left}
 use Rattle.lifting.proofs.Locality.{Agree, use_inside, use_outside}
 use Rattle.figures.specs.Figures.{square_filter, four_filter}

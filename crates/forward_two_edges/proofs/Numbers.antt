@@ -1,16 +1,15 @@
 -- The unfiltered samples number by number: inside the places of one use they are that use undone.
-use Prim.Native.Nat.{ℕ, zero, suc, ◌+◌, ◌-◌, ◌*◌, ◌/◌, ◌%◌, ◌≤◌, ◌<◌}
+use Prim.Native.Nat.{ℕ, ◌+◌, ◌-◌, ◌*◌, ◌/◌, ◌%◌, ◌<◌}
 use mathlib.Core.Path.{◌≡◌, refl, sym, ◌∙◌, ap}
-use mathlib.Core.Logic.{inl, by_cases}
+use mathlib.Core.Logic.{inl}
 use mathlib.Core.List.{List, [], ◌∷◌}
 use native.Mathlib.Omega.{arith}
-use native.Mathlib.Decide.{dec_lt}
 use native.Mathlib.Nat.{add-mul}
 use lib.Arith.{digits_lt}
 use lib.Dec.{T}
 use lib.ListN.{length, length-set}
 use lib.IntN.{ℤ}
-use Rattle.lifting.specs.Program.{Program, end, apply, Operator, at, get, line, back, undo, line_by, undo_by}
+use Rattle.lifting.specs.Program.{Program, end, apply, Operator, at, get, back, undo, line_by, undo_by}
 use Rattle.lifting.specs.Valid.{places}
 use Rattle.lifting.proofs.Reverse.{get-put, length-put}
 use Rattle.lifting.proofs.Between.{All}
@@ -22,7 +21,7 @@ use Rattle.transform.proofs.Squares.{get_sixteen, square-is}
 use Rattle.transform.proofs.Levels.{square_inside, row_strip_inside, column_strip_inside, corner_inside}
 use Rattle.transform.proofs.Alone.{Does}
 use Rattle.forward_kernel.proofs.Stores.{below-four}
-use Rattle.forward_two_edges.specs.Unfiltered.{Rectangle, Edge, First}
+use Rattle.forward_two_edges.specs.Unfiltered.{Edge, First}
 use Rattle.forward_two_edges.proofs.Alone.{first_inside, square-within, row_within, column-within, corner-within, square_alone, row_alone, column_alone, corner_alone}
 
 -- the places of a grid
