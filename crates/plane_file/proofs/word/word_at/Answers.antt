@@ -1,0 +1,7 @@
+-- Four bytes joined are the word, by its definition.
+use Rattle.plane_file.specs.Words.{word_at}
+use Rattle.plane_file.proofs.word.word_at.Goals as goal
+
+pub returns : goal.returns
+unfolding word_at
+returns c = c.joined.ensures
