@@ -1,0 +1,10 @@
+use Prim.Native.Nat.{◌*◌, ◌≤◌}
+use mathlib.Core.Path.{◌≡◌}
+use lib.ListN.{length}
+use Rattle.lifting.specs.Program.{run, each}
+use Rattle.transform.specs.Level.{cell, core_at}
+use Rattle.inverse_one.proofs.cores.cores.Given as goal
+
+abbrev pub invariant-loop-j : goal.invariant-loop-j
+invariant-loop-j l =
+    (l.j ≤ l.q) × (length l.grid ≡ length l.initial.grid) × (l.grid ≡ run (each l.j (λ k. each l.p (λ i. core_at (4 * l.p) (cell l.p (4 * k) (4 * i))))) l.initial.grid)

@@ -1,0 +1,10 @@
+use Prim.Native.Nat.{◌*◌, ◌≤◌}
+use mathlib.Core.Path.{◌≡◌}
+use lib.ListN.{length}
+use Rattle.lifting.specs.Program.{run, each}
+use Rattle.transform.specs.Level.{cell, core_at}
+use Rattle.inverse_one.proofs.cores.cores_across.Given as goal
+
+abbrev pub invariant-loop-i : goal.invariant-loop-i
+invariant-loop-i l =
+    (l.i ≤ l.p) × (length l.grid ≡ length l.initial.grid) × (l.grid ≡ run (each l.i (λ k. core_at (4 * l.p) (cell l.p (4 * l.j) (4 * k)))) l.initial.grid)
