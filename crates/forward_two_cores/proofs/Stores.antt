@@ -12,7 +12,7 @@ use lib.IntN.{ℤ, pos}
 use Rattle.lifting.specs.Program.{at, get, undo}
 use Rattle.figures.specs.Figures.{core}
 use Rattle.transform.specs.Level.{square}
-use Rattle.transform.specs.Grids.{coefficients, block_at}
+use Rattle.transform.specs.Grids.{block_at}
 use Rattle.transform.proofs.Grid.{first_coefficient, later_coefficient}
 use Rattle.grid.proofs.Rows.{row_inside}
 use Rattle.forward_kernel.specs.Placed.{Placed, undone_at}

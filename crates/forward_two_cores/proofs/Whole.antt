@@ -12,7 +12,7 @@ use Rattle.lifting.proofs.Locality.{agree_refl}
 use Rattle.figures.specs.Figures.{core}
 use Rattle.transform.specs.Level.{cell, square, core_at, cores}
 use Rattle.picture.specs.Table.{table}
-use Rattle.transform.specs.Grids.{place, grid, coefficients, block_order, first_grid, second_grid}
+use Rattle.transform.specs.Grids.{grid, coefficients, block_order, first_grid, second_grid}
 use Rattle.picture.proofs.Table.{at_table}
 use Rattle.transform.proofs.Geometry.{block_of_order, order_low}
 use Rattle.transform.proofs.Grid.{grid-is, at_first}
