@@ -1,7 +1,6 @@
 -- Rows of the strip parked in the planes: rows 16 and 17 go to the first eight coefficients of the upper four blocks of the macroblocks below, and come back as rows 0 and 1.
-use Rattle.std.specs.Prelude.{ℕ, ◌+◌, ◌*◌, ◌/◌, ◌%◌, ◌<◌, ◌≤◌, ◌≡◌, List, ◌⊎◌, ℤ, length}
+use Rattle.std.specs.Prelude.{ℕ, ◌+◌, ◌*◌, ◌/◌, ◌%◌, ◌<◌, ◌≤◌, ◌≡◌, List, ℤ, length}
 use Rattle.lifting.specs.Program.{at}
-use Rattle.transform.specs.Grids.{coefficients}
 use Rattle.forward_two_cores.specs.Blocks.{Among}
 
 -- the place of coefficient j of block k of the b-th macroblock in the strip, from row y on
