@@ -24,9 +24,9 @@ use Rattle.forward_two_cores.specs.declared.cells.Cells.{Cells}
 use Rattle.forward_two_cores.specs.Cells.{OfOne}
 use Rattle.forward_two_cores.specs.Blocks.{square_in, undone_in, Among, Replaced}
 use Rattle.forward_two_edges.specs.Unfiltered.{unfiltered}
-use Rattle.forward_two_edges.specs.Strip.{Holds, Kept, Rows}
+use Rattle.forward_two_edges.specs.Strip.{Holds, Kept}
 use Rattle.forward_two_edges.proofs.Strips.{holds_kept, holds_under, holds_beside, holds_as}
-use Rattle.forward_two_parked.specs.Parked.{place_in, Fetched, Parked}
+use Rattle.forward_two_parked.specs.Parked.{place_in, Fetched}
 use Rattle.forward_two.specs.Strips.{Carried, Through, Planes, Lowered}
 
 length_sixteen : (w i : ℕ) (v : List ℤ) → length (get (square w i) v) ≡ 16

@@ -3,7 +3,7 @@ use Rattle.std.specs.Prelude.{ℕ, ◌+◌, ◌*◌, ◌/◌, ◌%◌, ◌<◌, 
 use Rattle.lifting.specs.Program.{at, undo}
 use Rattle.figures.specs.Figures.{core}
 use Rattle.transform.specs.Level.{cell}
-use Rattle.picture.specs.Sizes.{macroblocks, Sized}
+use Rattle.picture.specs.Sizes.{macroblocks}
 use Rattle.picture.specs.declared.size.Size.{Size}
 use Rattle.forward_two_cores.specs.Blocks.{square_in, Among}
 use Rattle.forward_two_parked.specs.Parked.{place_in}
