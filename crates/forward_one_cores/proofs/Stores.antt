@@ -1,5 +1,5 @@
 -- A block stored number by number, and blocks replaced one after another or four at a time: each adds to what is done and leaves the rest.
-use Prim.Native.Nat.{ℕ, ◌+◌, ◌-◌, ◌*◌, ◌/◌, ◌%◌, ◌<◌, ◌≤◌}
+use Prim.Native.Nat.{ℕ, ◌+◌, ◌*◌, ◌/◌, ◌%◌, ◌<◌, ◌≤◌}
 use mathlib.Core.Path.{◌≡◌, refl, ◌∙◌, ap, ap₂}
 use mathlib.Core.Logic.{by_cases}
 use mathlib.Core.List.{List}
@@ -11,7 +11,6 @@ use lib.IntN.{ℤ, pos}
 use Rattle.lifting.specs.Program.{at, get, undo}
 use Rattle.figures.specs.Figures.{core}
 use Rattle.transform.specs.Level.{square}
-use Rattle.transform.specs.Grids.{coefficients}
 use Rattle.picture.proofs.Table.{length-table}
 use Rattle.forward_kernel.specs.Placed.{Placed, undone_at, block_in}
 use Rattle.forward_kernel.proofs.Stores.{same_block, block-is, length_undone}
