@@ -1,0 +1,13 @@
+-- Four lines, one after another.
+use Rattle.forward_one_filters.specs.Edges.{edges}
+use Rattle.forward_one_filters.proofs.Edges.{four_undone}
+use Rattle.forward_one_filters.proofs.filters.undo_edges.Goals as goal
+
+pub returns : goal.returns
+unfolding edges
+returns c =
+    let d4 = c.before.before in
+    let d3 = d4.before.before.before.before.before in
+    let d2 = d3.before.before.before.before.before in
+    let d1 = d2.before.before.before.before.before in
+    four_undone _ _ _ _ _ d1.undo_line.ensures d2.undo_line-2.ensures d3.undo_line-3.ensures d4.undo_line-4.ensures
