@@ -1,3 +1,4 @@
+-- All of the first m pieces are near; a piece that is not ends it, since no more pieces make up for it.
 use Prim.Native.Nat.{◌*◌, ◌≤◌}
 use mathlib.Core.Path.{◌≡◌}
 use mathlib.Core.Bool.{true}

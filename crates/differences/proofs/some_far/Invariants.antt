@@ -1,3 +1,4 @@
+-- Before place i, all are near as far as all before the first were and none since was far.
 use Prim.Native.Nat.{◌≤◌}
 use mathlib.Core.Path.{◌≡◌}
 use mathlib.Core.Bool.{not, ◌&&◌}

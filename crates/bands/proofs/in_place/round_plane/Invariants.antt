@@ -1,3 +1,4 @@
+-- After i turns the first i cells have their products, reduced, the rest are as they were, and it is known whether a product was outside.
 use Prim.Native.Nat.{ℕ}
 use mathlib.Core.Path.{◌≡◌}
 use mathlib.Core.List.{map}

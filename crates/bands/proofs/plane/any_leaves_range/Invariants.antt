@@ -1,3 +1,4 @@
+-- After i turns it is known whether one of the first i products is outside.
 use Prim.Native.Nat.{◌≤◌}
 use mathlib.Core.Path.{◌≡◌}
 use mathlib.Core.List.{map}

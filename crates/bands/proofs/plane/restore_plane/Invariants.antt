@@ -1,3 +1,4 @@
+-- After i turns the first i coefficients stand, and the rest are as they were.
 use Rattle.lifting.specs.Program.{at}
 use Rattle.transform.proofs.UpTo.{UpTo}
 use Rattle.step_sizes.specs.Steps.{step_of}

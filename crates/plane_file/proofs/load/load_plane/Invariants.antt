@@ -1,3 +1,4 @@
+-- After i turns the first i numbers are read, and the rest are as they were.
 use Prim.Native.Nat.{◌+◌, ◌*◌}
 use Rattle.transform.proofs.UpTo.{UpTo}
 use Rattle.plane_file.specs.Words.{number_at}

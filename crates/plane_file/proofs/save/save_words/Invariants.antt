@@ -1,3 +1,4 @@
+-- After i turns the first i words are written from `at` on, and all other bytes are as they were.
 use mathlib.Core.Path.{◌≡◌}
 use Prim.Native.Nat.{◌≤◌}
 use lib.ListN.{length}
