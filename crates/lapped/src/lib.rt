@@ -1,4 +1,4 @@
-// The C interface: one exported function for each operation, with the operation's own promises.
+// The interface as C sees it: one function for each operation, with the operation's own promises. lapped_c exports them.
 #![tactic(auto)]
 
 ghost use Rattle.std.specs.Prelude.{◌≡◌, false};
@@ -29,8 +29,7 @@ use quantise::quantise;
 use restore::restore;
 use step_sizes::table::step_or_zero;
 
-#[unsafe(no_mangle)]
-pub extern "C" fn lapped_inverse(
+pub fn lapped_inverse(
     mode: u32,
     size: Size,
     dc: &[i32],
@@ -46,8 +45,7 @@ pub extern "C" fn lapped_inverse(
     inverse(mode, size, dc, low, high, samples)
 }
 
-#[unsafe(no_mangle)]
-pub extern "C" fn lapped_quarter(
+pub fn lapped_quarter(
     mode: u32,
     size: Size,
     dc: &[i32],
@@ -61,8 +59,7 @@ pub extern "C" fn lapped_quarter(
     quarter_view(mode, size, dc, low, view)
 }
 
-#[unsafe(no_mangle)]
-pub extern "C" fn lapped_forward(
+pub fn lapped_forward(
     mode: u32,
     size: Size,
     samples: &[i32],
@@ -78,22 +75,19 @@ pub extern "C" fn lapped_forward(
     forward(mode, size, samples, dc, low, high)
 }
 
-#[unsafe(no_mangle)]
-pub extern "C" fn lapped_forecast(mode: u32, size: Size) -> Work
+pub fn lapped_forecast(mode: u32, size: Size) -> Work
     ensures { result ≡ forecast_answer mode size }
 {
     forecast(mode, size)
 }
 
-#[unsafe(no_mangle)]
-pub extern "C" fn lapped_read_header(bytes: &[u8]) -> Header
+pub fn lapped_read_header(bytes: &[u8]) -> Header
     ensures { result ≡ header_answer bytes.now }
 {
     read_header(bytes)
 }
 
-#[unsafe(no_mangle)]
-pub extern "C" fn lapped_load(
+pub fn lapped_load(
     bytes: &[u8],
     dc: &mut [i32],
     low: &mut [i32],
@@ -106,8 +100,7 @@ pub extern "C" fn lapped_load(
     load(bytes, dc, low, high)
 }
 
-#[unsafe(no_mangle)]
-pub extern "C" fn lapped_save(
+pub fn lapped_save(
     mode: u32,
     size: Size,
     dc: &[i32],
@@ -121,15 +114,13 @@ pub extern "C" fn lapped_save(
     save(mode, size, dc, low, high, bytes)
 }
 
-#[unsafe(no_mangle)]
-pub extern "C" fn lapped_step(index: u32) -> u32
+pub fn lapped_step(index: u32) -> u32
     ensures { result ≡ step_answer index }
 {
     step_or_zero(index)
 }
 
-#[unsafe(no_mangle)]
-pub extern "C" fn lapped_quantise(
+pub fn lapped_quantise(
     mode: u32,
     size: Size,
     steps: Steps,
@@ -159,8 +150,7 @@ pub extern "C" fn lapped_quantise(
     )
 }
 
-#[unsafe(no_mangle)]
-pub extern "C" fn lapped_restore(
+pub fn lapped_restore(
     mode: u32,
     size: Size,
     steps: Steps,
@@ -190,8 +180,7 @@ pub extern "C" fn lapped_restore(
     )
 }
 
-#[unsafe(no_mangle)]
-pub extern "C" fn lapped_find_step(
+pub fn lapped_find_step(
     mode: u32,
     size: Size,
     tolerance: u32,
