@@ -14,7 +14,7 @@ fn main() {
     if !library.is_file() {
         eprintln!(
             "error: {} is not there.\n\
-             Run `rt staticlib lapped` at the root of the repository, which proves the library and \
+             Run `bin/build library` at the root of the repository, which proves the library and \
              writes it,\nor set LAPPED_LIB_DIR to the absolute path of the folder that holds \
              liblapped.a.",
             library.display()

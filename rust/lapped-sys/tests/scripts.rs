@@ -14,7 +14,7 @@ fn commands(name: &str, rt: Option<&str>) -> PathBuf {
         fs::remove_dir_all(&folder).unwrap();
     }
     fs::create_dir(&folder).unwrap();
-    for command in ["awk", "bash", "cat", "dirname", "mktemp", "rm", "sed", "tee"] {
+    for command in ["awk", "bash", "cat", "dirname", "install", "mktemp", "rm", "sed", "tee"] {
         let places = ["/usr/bin", "/bin"].map(|place| PathBuf::from(place).join(command));
         let place = places.into_iter().find(|place| place.exists()).expect(command);
         symlink(place, folder.join(command)).unwrap();
@@ -49,13 +49,16 @@ fn without_the_kit_one_line_says_so() {
     assert_eq!(with, (Some(0), String::new(), String::new()));
 }
 
-/// Two crates proved, one of them just now, with the lines that `rt check` prints of each.
+/// Two crates proved, one of them just now, with the lines that `rt run` prints of each.
 const PROVED: &str = "#!/bin/sh
-[ \"$*\" = 'check samples' ] || exit 2
-echo 'fn decimal::digits_len: proved'
-echo 'rt: decimal proved (8 s)'
-echo 'rt: lifting proved (unchanged since it was last proved)'
-echo 'rt: ok, 2 crates proved'
+[ \"$*\" = 'run' ] || exit 2
+{
+    echo 'fn decimal::digits_len: proved'
+    echo 'crate decimal: modules loaded=192 checked=35'
+    echo 'logic=proved functions=9'
+    echo 'library decimal: modules loaded=192 checked=0'
+    echo 'library lifting: modules loaded=271 checked=0'
+} >&2
 ";
 
 /// How many crates are to be proved: the program and all that lies below it, of which the kit brings two.
@@ -88,7 +91,7 @@ fn sample_is_shown() {
     assert_eq!(status, Some(0), "{text}");
     let lines: Vec<&str> = text.lines().collect();
     let crates = crates_of_samples();
-    let first = format!("[ 1/{crates}] decimal proved, 8 s");
+    let first = format!("[ 1/{crates}] decimal proved");
     let second = format!("[ 2/{crates}] lifting proved, unchanged");
     assert_eq!(lines[1..4], [first.as_str(), second.as_str(), ""]);
 
@@ -111,8 +114,8 @@ fn sample_is_shown() {
 #[test]
 fn log_of_a_failure_is_shown() {
     let refused =
-        "#!/bin/sh\necho 'rt: decimal proved (8 s)'\necho 'fn f: not proved' >&2\nexit 3\n";
+        "#!/bin/sh\necho 'fn g: proved' >&2\necho 'fn f: not proved' >&2\nexit 3\n";
     let (status, text, _) = run("bin/show-sample", commands("refused", Some(refused)));
     assert_eq!(status, Some(3));
-    assert!(text.ends_with("rt: decimal proved (8 s)\nfn f: not proved\n"), "{text}");
+    assert!(text.ends_with("fn g: proved\nfn f: not proved\n"), "{text}");
 }

@@ -17,7 +17,7 @@ fn binary() -> PathBuf {
     };
     assert!(
         path.is_file(),
-        "{} is not there: run `rt check samples` at the root of the repository, \
+        "{} is not there: run `bin/build samples` at the root of the repository, \
          or set LAPPED_SAMPLES_BIN to the program's path",
         path.display()
     );
