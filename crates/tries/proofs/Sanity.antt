@@ -2,10 +2,10 @@
 use Prim.Native.Nat.{ℕ}
 use mathlib.Core.Path.{◌≡◌, refl}
 use mathlib.Core.Bool.{Bool, true, false}
-use mathlib.Core.List.{List, [], ◌∷◌}
+use mathlib.Core.List.{[], ◌∷◌}
 use lib.IntN.{pos}
 use Rattle.lifting.specs.Wrap.{wrap}
-use Rattle.lifting.specs.Program.{run, back, undo, line, value, get, put, ◌then◌, each, line_by, run_by, undo_by, value_by}
+use Rattle.lifting.specs.Program.{back, get, put, ◌then◌, each, line_by, run_by, undo_by, value_by}
 use Rattle.figures.specs.Figures.{hadamard, odd, odd_odd, core, core_stages}
 use Rattle.transform.specs.Level.{square, core_at, cores, level}
 use Rattle.picture.specs.Table.{table}

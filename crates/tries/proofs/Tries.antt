@@ -14,7 +14,7 @@ use Rattle.lifting.specs.Tests.{all}
 use Rattle.picture.specs.declared.mode.Mode.{Mode}
 use Rattle.picture.specs.declared.size.Size.{Size}
 use Rattle.picture.specs.Sizes.{Sized, macroblocks}
-use Rattle.picture.specs.Planes.{Planes, PlanesOf}
+use Rattle.picture.specs.Planes.{Planes}
 use Rattle.transform.specs.Transform.{forward_by, inverse_by}
 use Rattle.transform.proofs.OnePlanes.{planes-forward, inverse-forward}
 use Rattle.step_sizes.specs.Steps.{step_of}
