@@ -170,7 +170,17 @@ pub extern "C" fn lapped_restore(
         settled result (restored_planes steps (planes dc_levels.now low_levels.now high_levels.now))
         (planes dc.old low.old high.old) }
 {
-    lapped::lapped_restore(mode, size, steps, dc_levels, low_levels, high_levels, dc, low, high)
+    lapped::lapped_restore(
+        mode,
+        size,
+        steps,
+        dc_levels,
+        low_levels,
+        high_levels,
+        dc,
+        low,
+        high,
+    )
 }
 
 #[unsafe(no_mangle)]
