@@ -1,5 +1,5 @@
 -- What quantising and restoring do to a number, at every index (02, a).
-use Rattle.std.specs.Prelude.{ℕ, suc, ◌+◌, ◌-◌, ◌*◌, ◌/◌, ◌≤◌, ◌≡◌, false, ℤ, pos, negsuc, neg_ℤ, nat_abs, ◌-ℤ◌, ◌*ℤ◌}
+use Rattle.std.specs.Prelude.{ℕ, suc, ◌+◌, ◌*◌, ◌/◌, ◌≤◌, ◌≡◌, false, ℤ, pos, negsuc, neg_ℤ, nat_abs, ◌-ℤ◌, ◌*ℤ◌}
 use Rattle.step_sizes.specs.Steps.{step_of}
 use Rattle.step_sizes.specs.Levels.{quantised, restored, is_out_of_range}
 use Rattle.corollaries.specs.Sizes.{InRange}
