@@ -45,13 +45,7 @@ pub fn lapped_inverse(
     inverse(mode, size, dc, low, high, samples)
 }
 
-pub fn lapped_quarter(
-    mode: u32,
-    size: Size,
-    dc: &[i32],
-    low: &[i32],
-    view: &mut [i32],
-) -> Answer
+pub fn lapped_quarter(mode: u32, size: Size, dc: &[i32], low: &[i32], view: &mut [i32]) -> Answer
     ensures number_value { result.number ≡ quarter_number mode size dc.now low.now view.old }
     ensures wrapped_value { result.wrapped ≡ settled result.number (quarter_wraps mode size dc.now low.now) false }
     ensures view_after { view.new ≡ settled result.number (quarter mode size dc.now low.now) view.old }
@@ -87,12 +81,7 @@ pub fn lapped_read_header(bytes: &[u8]) -> Header
     read_header(bytes)
 }
 
-pub fn lapped_load(
-    bytes: &[u8],
-    dc: &mut [i32],
-    low: &mut [i32],
-    high: &mut [i32],
-) -> Header
+pub fn lapped_load(bytes: &[u8], dc: &mut [i32], low: &mut [i32], high: &mut [i32]) -> Header
     ensures value { result ≡ load_answer bytes.now (planes dc.old low.old high.old) }
     ensures high_after { planes dc.new low.new high.new ≡
         loaded bytes.now (planes dc.old low.old high.old) }

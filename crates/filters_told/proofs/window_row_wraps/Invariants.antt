@@ -1,3 +1,4 @@
+-- What the loop keeps.
 use Prim.Native.Nat.{ℕ, ◌+◌, ◌*◌}
 use Rattle.lifting.specs.Program.{Program}
 use Rattle.lifting.specs.Wraps.{undo_wraps}

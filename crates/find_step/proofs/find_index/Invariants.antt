@@ -1,3 +1,4 @@
+-- What the loop keeps, and its measure.
 use Rattle.picture.specs.Planes.{planes}
 use Rattle.tries.specs.Tries.{passes_by}
 use Rattle.find_step.proofs.Search.{Searching}

@@ -1,3 +1,4 @@
+-- What the loop keeps.
 use Prim.Native.Nat.{◌+◌, ◌≤◌}
 use Rattle.lifting.specs.Program.{at}
 use Rattle.forward_kernel.specs.Placed.{Placed}

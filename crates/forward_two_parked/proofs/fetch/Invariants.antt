@@ -1,3 +1,4 @@
+-- What the loop keeps.
 use Prim.Native.Nat.{◌*◌, ◌≤◌}
 use Rattle.forward_two_cores.specs.Blocks.{block_of}
 use Rattle.forward_two_edges.specs.Strip.{Kept}

@@ -1,3 +1,4 @@
+-- What the loop keeps.
 use Prim.Native.Nat.{◌≤◌}
 use Rattle.forward_two_parked.specs.Parked.{RestParked}
 use Rattle.forward_two_parked.proofs.park_rest.Given as goal

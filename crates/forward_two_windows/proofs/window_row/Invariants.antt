@@ -1,3 +1,4 @@
+-- What the loop keeps, and its measure.
 use Prim.Native.Nat.{ℕ, ◌+◌, ◌-◌, ◌*◌, ◌≤◌}
 use Rattle.forward_two_edges.specs.Strip.{Holds, Kept}
 use Rattle.forward_two_windows.proofs.window_row.Given as goal

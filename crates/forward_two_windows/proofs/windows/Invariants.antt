@@ -1,3 +1,4 @@
+-- What the loop keeps.
 use Prim.Native.Nat.{◌+◌, ◌*◌, ◌≤◌}
 use Rattle.forward_two_edges.specs.Strip.{Holds, Kept, Stands}
 use Rattle.forward_two_windows.proofs.windows.Given as goal

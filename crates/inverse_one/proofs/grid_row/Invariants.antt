@@ -1,3 +1,4 @@
+-- What the loop keeps.
 use Prim.Native.Nat.{◌+◌, ◌≤◌}
 use Rattle.inverse_levels.specs.Filled.{Filled}
 use Rattle.inverse_one.specs.Rows.{plane_numbers, Between}

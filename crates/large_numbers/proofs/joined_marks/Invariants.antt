@@ -1,3 +1,4 @@
+-- What the loop keeps.
 use Prim.Native.Nat.{◌+◌, ◌*◌, ◌≤◌, ◌<◌}
 use Rattle.large_numbers.specs.Small.{AtMost, Fit}
 use Rattle.large_numbers.proofs.joined_marks.Given as goal

@@ -1,3 +1,4 @@
+-- What the loop keeps, and its measure.
 use Prim.Native.Nat.{◌-◌}
 use Rattle.forward_one_filters.specs.Windows.{filter_on}
 use Rattle.forward_one_filters.proofs.Undoing.{Undoing}

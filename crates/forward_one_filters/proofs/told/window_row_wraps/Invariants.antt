@@ -1,3 +1,4 @@
+-- What the loop keeps.
 use Rattle.lifting.specs.Wraps.{undo_wraps}
 use Rattle.lifting.proofs.AnyUse.{Walked}
 use Rattle.forward_one_grid.specs.Held.{numbers}

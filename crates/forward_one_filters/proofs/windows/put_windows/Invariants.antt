@@ -1,3 +1,4 @@
+-- What the loop keeps, and its measure.
 use Rattle.forward_one_filters.proofs.Apart.{Storing}
 use Rattle.forward_one_filters.proofs.windows.put_windows.Given as goal
 
