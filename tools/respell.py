@@ -22,7 +22,7 @@ TOKEN = re.compile(r"(?<![\w'?-])[^\W\d_][\w'?-]*")
 LIBRARY = set("""length get put set map take drop append fold sum neg add sub mul abs mag list head tail low32 wrap pos negsuc
 and or not cond div mod min max pow digits reverse zip filter""".split())
 # What falls together with another name in the same file, or with a name of the library, gets a name of its own.
-OWN = {"outOfRange": "is_out_of_range", "plane-bytes": "plane_bytes_lem", "sample-bytes": "sample_bytes_lem"}
+OWN = {"outOfRange": "is_out_of_range", "plane-bytes": "bytes_of_planes", "sample-bytes": "bytes_of_samples"}
 
 
 def read(path):
@@ -128,8 +128,9 @@ def main():
     both = collections.defaultdict(set)
     for old, new in new_names.items():
         both[new].add(old)
+    old_names = declared()
     for new, olds in sorted(both.items()):
-        if len(olds) > 1 or new in declared():
+        if len(olds) > 1 or new in old_names:
             print("falls together:", new, sorted(olds), file=sys.stderr)
     if "--list" in sys.argv:
         return

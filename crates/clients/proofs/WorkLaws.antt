@@ -58,8 +58,8 @@ module _ (mode : ℕ) (size : Size) where
     forecasts =
         record {
           cores = ap (λ (w : Work). w.cores) e ∙ both_of (cores-of (leb 2 mode) W H) (cores-of (leb 1 mode) (4 * W) (4 * H));
-          plane_bytes_lem = ap (λ (w : Work). w.plane_bytes) e;
-          sample_bytes_lem = ap (λ (w : Work). w.sample_bytes) e;
+          bytes_of_planes = ap (λ (w : Work). w.plane_bytes) e;
+          bytes_of_samples = ap (λ (w : Work). w.sample_bytes) e;
           none = λ h. (squares ∙ ap (filtered (inner W H) (inner (4 * W) (4 * H))) h, fours ∙ ap (filtered (border W H) (border (4 * W) (4 * H))) h);
           one = λ h. (squares ∙ ap (filtered (inner W H) (inner (4 * W) (4 * H))) h ∙ zero-and _, fours ∙ ap (filtered (border W H) (border (4 * W) (4 * H))) h ∙ zero-and _);
           both = λ h. (squares ∙ ap (filtered (inner W H) (inner (4 * W) (4 * H))) h, fours ∙ ap (filtered (border W H) (border (4 * W) (4 * H))) h);
@@ -88,8 +88,8 @@ module _ (mode : ℕ) (size : Size) where
           cores = ap (λ (w : Work). w.cores) q;
           square-filters = ap (λ (w : Work). w.square_filters) q;
           four-filters = ap (λ (w : Work). w.four_filters) q;
-          plane_bytes_lem = ap (λ (w : Work). w.plane_bytes) q;
-          sample_bytes_lem = ap (λ (w : Work). w.sample_bytes) q;
+          bytes_of_planes = ap (λ (w : Work). w.plane_bytes) q;
+          bytes_of_samples = ap (λ (w : Work). w.sample_bytes) q;
         }
 
     pub refused : (r.number ≡ 0 → ⊥) → NoForecast r

@@ -14,8 +14,8 @@ border p q = 4 * (p - 1) + 4 * (q - 1) + 4
 -- every macroblock has a core at level one and 16 at level two, and 1024 bytes of planes and of samples; mode 1 filters level two, and mode 2 both
 pub record Forecast (mode : ℕ) (size : Size) (r : Work) : Type 0 where
   pub cores : r.cores ≡ count size + 4 * size.width.0 * (4 * size.height.0)
-  pub plane_bytes_lem : r.plane_bytes ≡ 1024 * count size
-  pub sample_bytes_lem : r.sample_bytes ≡ 1024 * count size
+  pub bytes_of_planes : r.plane_bytes ≡ 1024 * count size
+  pub bytes_of_samples : r.sample_bytes ≡ 1024 * count size
   pub none : mode ≡ 0 → (r.square_filters ≡ 0) × (r.four_filters ≡ 0)
   pub one : mode ≡ 1 → (r.square_filters ≡ inner (4 * size.width.0) (4 * size.height.0)) × (r.four_filters ≡ border (4 * size.width.0) (4 * size.height.0))
   pub both : mode ≡ 2 → (r.square_filters ≡ inner size.width.0 size.height.0 + inner (4 * size.width.0) (4 * size.height.0))
@@ -25,5 +25,5 @@ pub record NoForecast (r : Work) : Type 0 where
   pub cores : r.cores ≡ 0
   pub square-filters : r.square_filters ≡ 0
   pub four-filters : r.four_filters ≡ 0
-  pub plane_bytes_lem : r.plane_bytes ≡ 0
-  pub sample_bytes_lem : r.sample_bytes ≡ 0
+  pub bytes_of_planes : r.plane_bytes ≡ 0
+  pub bytes_of_samples : r.sample_bytes ≡ 0
