@@ -61,15 +61,12 @@ const PROVED: &str = "#!/bin/sh
 } >&2
 ";
 
-/// How many crates are to be proved: the program and all that lies below it, of which the kit brings two.
+/// How many crates are to be proved: the program and all that lies below it.
 fn crates_of_samples() -> usize {
     let list = fs::read_to_string(root().join("crates.txt")).unwrap();
     let uses = |name: &str| -> Vec<String> {
         let line = list.lines().find_map(|line| line.strip_prefix(&format!("{name}:"))).unwrap();
-        line.split_whitespace()
-            .filter(|name| !["io", "libc"].contains(name))
-            .map(String::from)
-            .collect()
+        line.split_whitespace().map(String::from).collect()
     };
     let mut below = vec!["samples".to_string()];
     let mut next = 0;
@@ -113,8 +110,7 @@ fn sample_is_shown() {
 /// What is not proved is shown with all that was said of it.
 #[test]
 fn log_of_a_failure_is_shown() {
-    let refused =
-        "#!/bin/sh\necho 'fn g: proved' >&2\necho 'fn f: not proved' >&2\nexit 3\n";
+    let refused = "#!/bin/sh\necho 'fn g: proved' >&2\necho 'fn f: not proved' >&2\nexit 3\n";
     let (status, text, _) = run("bin/show-sample", commands("refused", Some(refused)));
     assert_eq!(status, Some(3));
     assert!(text.ends_with("fn g: proved\nfn f: not proved\n"), "{text}");
