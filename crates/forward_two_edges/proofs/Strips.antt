@@ -149,15 +149,15 @@ pub made_none : (size : Size) (samples : List ℤ) (r c t b l k : ℕ) (v : List
 made_none size samples r c t b l k v = record { from = omega arith; holds = record { there = λ y x f g h i u v. absurd (omega arith) }; kept = kept-none t b l k v }
 
 module _ {size : Size} {samples : List ℤ} (r c t b l k y : ℕ) {old mid : List ℤ} (m : Made size samples r c t b l k y old mid) where
-  pub made_next : {new : List ℤ} → k ≤ 72 → y < b → Holds size samples r c y (y + 1) l k new × Kept y (y + 1) l k mid new → Made size samples r c t b l k (y + 1) old new
+  pub made_next : {new : List ℤ} → k ≤ 72 → y < b → record { holds : Holds size samples r c y (y + 1) l k new; kept : Kept y (y + 1) l k mid new } → Made size samples r c t b l k (y + 1) old new
   made_next few below e = record {
     from = omega (arith, m.from);
-    holds = holds_next r c t y l k few m.holds e.0 e.1;
-    kept = kept_then m.kept (kept_as t b l k m.from (omega arith) (omega arith) (omega arith) e.1);
+    holds = holds_next r c t y l k few m.holds e.holds e.kept;
+    kept = kept_then m.kept (kept_as t b l k m.from (omega arith) (omega arith) (omega arith) e.kept);
   }
 
-  pub made_all : b ≤ y → Holds size samples r c t b l k mid × Kept t b l k old mid
-  made_all h = (holds_as r c t b l k (omega arith) h (omega arith) (omega arith) m.holds, m.kept)
+  pub made_all : b ≤ y → record { holds : Holds size samples r c t b l k mid; kept : Kept t b l k old mid }
+  made_all h = record { holds = holds_as r c t b l k (omega arith) h (omega arith) (omega arith) m.holds; kept = m.kept }
 
 -- ---- places of the samples
 
@@ -188,10 +188,10 @@ module _ (size : Size) (samples : List ℤ) (wide : 0 < size.width.0) (tall : 0 
   -- n fours of row y
   pub row_filled : (y n a i : ℕ) {old new : List ℤ} → n ≤ 16 → 4 * c + n < 4 * W → Edge (4 * H) (16 * r + y) → 16 * r + y < 16 * H → a ≡ (16 * r + y) * (16 * W) + 16 * c + 2 → i ≡ 72 * y + 2
       → Spread i 1 (4 * n) (fours_from samples 1 a) old new
-      → Holds size samples r c y (y + 1) 2 (4 * n + 2) new × Kept y (y + 1) 2 (4 * n + 2) old new
+      → record { holds : Holds size samples r c y (y + 1) 2 (4 * n + 2) new; kept : Kept y (y + 1) 2 (4 * n + 2) old new }
   unfolding unfiltered_at unfiltered
-  row_filled y n a i {old} {new} few some edge low e p d = (
-    record {
+  row_filled y n a i {old} {new} few some edge low e p d = record {
+    holds = record {
       there = λ z x f g h k u v.
           let j = x - 2 in
           let b = 4 * c + j / 4 in
@@ -200,17 +200,17 @@ module _ (size : Size) (samples : List ℤ) (wide : 0 < size.width.0) (tall : 0 
           ∙ ap (λ (b : ℕ). at (undo four_filter (get (line 1 b) samples)) (j % 4)) (omega (arith, e))
           ∙ sym (row_at (4 * W) (4 * H) samples room (16 * r + y) b (j % 4) (omega arith) edge (omega arith) (omega arith))
           ∙ ap₂ (λ (m b : ℕ). at (undo (filters (4 * W) (4 * H)) samples) (cell (4 * W) (16 * r + m) b)) (sym same) (omega arith);
-    },
-    record { len = d.len; same = λ z x h o. d.others (72 * z + x) (λ k l q. o (omega (arith, q)) (omega (arith, q)) (omega (arith, q)) (omega (arith, q))) },
-  )
+    };
+    kept = record { len = d.len; same = λ z x h o. d.others (72 * z + x) (λ k l q. o (omega (arith, q)) (omega (arith, q)) (omega (arith, q)) (omega (arith, q))) };
+  }
 
   -- n fours of columns x and x + 1
   pub columns_filled : (x n a i : ℕ) {old new : List ℤ} → x ≤ 70 → 4 * r + n < 4 * H → First (4 * W) (16 * c + x) → a ≡ (16 * r + 2) * (16 * W) + 16 * c + x → i ≡ 144 + x
       → Columns i (4 * n) (fours_down samples (16 * W) a) old new
-      → Holds size samples r c 2 (4 * n + 2) x (x + 2) new × Kept 2 (4 * n + 2) x (x + 2) old new
+      → record { holds : Holds size samples r c 2 (4 * n + 2) x (x + 2) new; kept : Kept 2 (4 * n + 2) x (x + 2) old new }
   unfolding unfiltered_at unfiltered
-  columns_filled x n a i {old} {new} few some first e f d = (
-    record {
+  columns_filled x n a i {old} {new} few some first e f d = record {
+    holds = record {
       there = λ y z g h k l u v.
           let j = y - 2 in
           let m = 4 * r + j / 4 in
@@ -218,18 +218,18 @@ module _ (size : Size) (samples : List ℤ) (wide : 0 < size.width.0) (tall : 0 
           ∙ ap₂ (λ (w b : ℕ). at (undo four_filter (get (line w b) samples)) (j % 4)) (omega arith) (omega (arith, e))
           ∙ sym (column-at (4 * W) (4 * H) samples room (16 * c + z) m (j % 4) (omega arith) (first_edge (4 * W) (16 * c + x) (16 * c + z) first (omega arith) (omega arith)) (omega arith) (omega arith))
           ∙ ap (λ (b : ℕ). at (undo (filters (4 * W) (4 * H)) samples) (cell (4 * W) b (16 * c + z))) (omega arith);
-    },
-    record { len = d.len; same = λ y z h o. d.others (72 * y + z) (λ b k hb l q. o (omega (arith, q)) (omega (arith, q)) (omega (arith, q)) (omega (arith, q))) },
-  )
+    };
+    kept = record { len = d.len; same = λ y z h o. d.others (72 * y + z) (λ b k hb l q. o (omega (arith, q)) (omega (arith, q)) (omega (arith, q)) (omega (arith, q))) };
+  }
 
   -- a corner in rows y and y + 1 and columns x and x + 1
   pub corner_filled : (y x a i : ℕ) (u v : List ℤ) {old new : List ℤ} → x ≤ 70 → 72 * y + x + 73 < length old → First (4 * H) (16 * r + y) → First (4 * W) (16 * c + x)
       → a ≡ (16 * r + y) * (16 * W) + 16 * c + x → i ≡ 72 * y + x
       → four u ≡ get (corner (16 * W) a) samples → four v ≡ undo four_filter (four u) → new ≡ put (corner 72 i) (four v) old
-      → Holds size samples r c y (y + 2) x (x + 2) new × Kept y (y + 2) x (x + 2) old new
+      → record { holds : Holds size samples r c y (y + 2) x (x + 2) new; kept : Kept y (y + 2) x (x + 2) old new }
   unfolding unfiltered
-  corner_filled y x a i u v {old} {new} few room' fy fx e f read made stored = (
-    record {
+  corner_filled y x a i u v {old} {new} few room' fy fx e f read made stored = record {
+    holds = record {
       there = λ z w g h k l m n.
           let j = 2 * (z - y) + (w - x) in
           let below : y + j / 2 ≡ z = omega arith in
@@ -239,8 +239,8 @@ module _ (size : Size) (samples : List ℤ) (wide : 0 < size.width.0) (tall : 0 
           ∙ ap₂ (λ (o b : ℕ). at (undo four_filter (get (corner o b) samples)) j) (omega arith) (omega (arith, e))
           ∙ sym (corner-at (4 * W) (4 * H) samples room (16 * r + y) (16 * c + x) j (omega arith) (omega arith) fy fx (omega arith))
           ∙ ap₂ (λ (o q : ℕ). at (undo (filters (4 * W) (4 * H)) samples) (cell (4 * W) o q)) (omega (arith, below)) (omega (arith, beside));
-    },
-    record {
+    };
+    kept = record {
       len = ap length stored ∙ length-put _ _ old;
       same = λ z w h o.
           ap (λ l. at l (72 * z + w)) stored
@@ -251,8 +251,8 @@ module _ (size : Size) (samples : List ℤ) (wide : 0 < size.width.0) (tall : 0 
               (λ q. away z w o 1 0 (omega arith) (omega arith) h (omega (arith, q)), (λ q. away z w o 1 1 (omega arith) (omega arith) h (omega (arith, q)), tt)),
             ),
           ) agree_refl).same (72 * z + w) refl;
-    },
-  )
+    };
+  }
     where
       own : (k : ℕ) → k < 4 → at new (72 * (y + k / 2) + (x + k % 2)) ≡ at (undo four_filter (get (corner (16 * W) a) samples)) k
       own k h =
@@ -334,16 +334,16 @@ module _ {size : Size} {r first down : ℕ} (low : r < size.height.0) (rows : Ro
             (λ w. by_cases (dec_lt y 16) (λ o. d.there y x (omega (arith, w)) o m n u v) (λ o. absurd (beyond y w o g u))));
       }
 
-  pub columns_joined : {samples : List ℤ} (c x : ℕ) {v0 v1 v2 v3 : List ℤ} → x ≤ 70 → Holds size samples r c first 2 x (x + 2) v1 × Kept first 2 x (x + 2) v0 v1
-      → Holds size samples r c 2 (4 * down + 2) x (x + 2) v2 × Kept 2 (4 * down + 2) x (x + 2) v1 v2
-      → Holds size samples r c (4 * down + 2) 16 x (x + 2) v3 × Kept (4 * down + 2) 16 x (x + 2) v2 v3
-      → Holds size samples r c first 18 x (x + 2) v3 × Kept first 18 x (x + 2) v0 v3
+  pub columns_joined : {samples : List ℤ} (c x : ℕ) {v0 v1 v2 v3 : List ℤ} → x ≤ 70 → record { holds : Holds size samples r c first 2 x (x + 2) v1; kept : Kept first 2 x (x + 2) v0 v1 }
+      → record { holds : Holds size samples r c 2 (4 * down + 2) x (x + 2) v2; kept : Kept 2 (4 * down + 2) x (x + 2) v1 v2 }
+      → record { holds : Holds size samples r c (4 * down + 2) 16 x (x + 2) v3; kept : Kept (4 * down + 2) 16 x (x + 2) v2 v3 }
+      → record { holds : Holds size samples r c first 18 x (x + 2) v3; kept : Kept first 18 x (x + 2) v0 v3 }
   columns_joined c x few a b d =
       let n = rows_down in
       let f = rows-first in
-      let above = holds_kept r c first 2 x (x + 2) 2 (4 * down + 2) x (x + 2) (omega arith) (λ y z g h k l m o p q. absurd (omega arith)) a.0 b.1 in (
-        three_rows c x (x + 2) (holds_kept r c first 2 x (x + 2) (4 * down + 2) 16 x (x + 2) (omega arith) (λ y z g h k l m o p q. absurd (omega (arith, n))) above d.1)
-            (holds_kept r c 2 (4 * down + 2) x (x + 2) (4 * down + 2) 16 x (x + 2) (omega arith) (λ y z g h k l m o p q. absurd (omega arith)) b.0 d.1) d.0,
-        kept_then (kept_as first 18 x (x + 2) (omega arith) (omega arith) (omega arith) (omega arith) a.1) (kept_then (kept_as first 18 x (x + 2) (omega arith) (omega (arith, n)) (omega arith) (omega arith) b.1)
-            (kept_as first 18 x (x + 2) (omega (arith, n)) (omega arith) (omega arith) (omega arith) d.1)),
-      )
+      let above = holds_kept r c first 2 x (x + 2) 2 (4 * down + 2) x (x + 2) (omega arith) (λ y z g h k l m o p q. absurd (omega arith)) a.holds b.kept in record {
+        holds = three_rows c x (x + 2) (holds_kept r c first 2 x (x + 2) (4 * down + 2) 16 x (x + 2) (omega arith) (λ y z g h k l m o p q. absurd (omega (arith, n))) above d.kept)
+            (holds_kept r c 2 (4 * down + 2) x (x + 2) (4 * down + 2) 16 x (x + 2) (omega arith) (λ y z g h k l m o p q. absurd (omega arith)) b.holds d.kept) d.holds;
+        kept = kept_then (kept_as first 18 x (x + 2) (omega arith) (omega arith) (omega arith) (omega arith) a.kept) (kept_then (kept_as first 18 x (x + 2) (omega arith) (omega (arith, n)) (omega arith) (omega arith) b.kept)
+            (kept_as first 18 x (x + 2) (omega (arith, n)) (omega arith) (omega arith) (omega arith) d.kept));
+      }

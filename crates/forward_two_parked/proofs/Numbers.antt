@@ -47,16 +47,16 @@ kept_placed y l n i {f} {old} {new} e h p = record {
 
 pub block_fetched : (g : ℕ → ℤ) (x : ℕ) (old a b : List ℤ) {mid new : List ℤ} → x ≤ 68 → length old ≡ 1296 → ((j : ℕ) → j < 4 → at a j ≡ g j) → ((j : ℕ) → j < 4 → at b j ≡ g (j + 4))
     → mid ≡ put (line 1 x) (four a) old → new ≡ put (line 1 (72 + x)) (four b) mid
-    → ((j : ℕ) → j < 8 → at new (72 * (j / 4) + x + j % 4) ≡ g j) × Kept 0 2 x (x + 4) old new
+    → record { by_index : (j : ℕ) → j < 8 → at new (72 * (j / 4) + x + j % 4) ≡ g j; kept : Kept 0 2 x (x + 4) old new }
 block_fetched g x old a b {mid} {new} h l fa fb ea eb =
     let p = four_placed x a old (omega arith) ea in
-    let q = four_placed (72 + x) b mid (omega (arith, p.len)) eb in (
-      λ j k. by_cases (dec_lt j 4)
+    let q = four_placed (72 + x) b mid (omega (arith, p.len)) eb in record {
+      by_index = λ j k. by_cases (dec_lt j 4)
           (λ m. ap (at new) (omega (arith, m)) ∙ q.below (x + j) (omega (arith, m)) ∙ p.own j m ∙ fa j m)
-          (λ m. ap (at new) (omega (arith, m)) ∙ q.own (j - 4) (omega (arith, m)) ∙ fb (j - 4) (omega (arith, m)) ∙ ap g (omega (arith, m))),
-      kept_then (kept_as 0 2 x (x + 4) (omega arith) (omega arith) (omega arith) (omega arith) (kept_placed 0 x 4 x (omega arith) (omega arith) p))
-          (kept_as 0 2 x (x + 4) (omega arith) (omega arith) (omega arith) (omega arith) (kept_placed 1 x 4 (72 + x) (omega arith) (omega arith) q)),
-    )
+          (λ m. ap (at new) (omega (arith, m)) ∙ q.own (j - 4) (omega (arith, m)) ∙ fb (j - 4) (omega (arith, m)) ∙ ap g (omega (arith, m)));
+      kept = kept_then (kept_as 0 2 x (x + 4) (omega arith) (omega arith) (omega arith) (omega arith) (kept_placed 0 x 4 x (omega arith) (omega arith) p))
+          (kept_as 0 2 x (x + 4) (omega arith) (omega arith) (omega arith) (omega arith) (kept_placed 1 x 4 (72 + x) (omega arith) (omega arith) q));
+    }
 
 -- one more block of a macroblock
 pub blocks_fetched : (blocks : ℕ → List ℤ) (m b n : ℕ) {old new : List ℤ} → b < 4 → n < 4 → ((j : ℕ) → j < 8 → at new (72 * (j / 4) + (16 * b + 4 * n) + j % 4) ≡ at (blocks (16 * m + n)) j)

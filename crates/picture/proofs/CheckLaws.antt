@@ -130,8 +130,8 @@ refused zero mode j e = absurd (let z : ◌≡◌ {A = ℕ} 0 1 = cc in omega ar
 refused (suc k) mode j e = let f : j ≡ suc k = cc in (f, λ z. omega (arith, f, z))
 
 -- an answer whose number is k is that of k
-pub answers : {r : Checked} {k : ℕ} (mode : ℕ) → (checked_number r ≡ k) × (r ≡ checked (checked_number r) mode) → r ≡ checked k mode
-answers {r} {k} mode e = e.1 ∙ ap (λ (j : ℕ). checked j mode) e.0
+pub answers : {r : Checked} {k : ℕ} (mode : ℕ) → record { number : checked_number r ≡ k; answer : r ≡ checked (checked_number r) mode } → r ≡ checked k mode
+answers {r} {k} mode e = e.answer ∙ ap (λ (j : ℕ). checked j mode) e.number
 
 -- the answer of checks of mode and size, by what the mode's number chooses
 abbrev shape_number : Size → ModeAnswer → ℕ

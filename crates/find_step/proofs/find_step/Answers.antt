@@ -32,14 +32,14 @@ Promised s k index t u m =
 pub find_sized-requires : goal.find_sized-requires
 find_sized-requires c =
     let s = (goal.at.find_sized-requires c).Start in
-    ready-sized s.args.mode s.args.size (rest s) (sym c.in-Ready.is ∙ answers s.args.mode (c.check_shape.ensures.number, c.check_shape.ensures.answer))
+    ready-sized s.args.mode s.args.size (rest s) (sym c.in-Ready.is ∙ answers s.args.mode c.check_shape.ensures)
 
 pub returns-in-Refused : goal.returns-in-Refused
 unfolding find_number
 returns-in-Refused c =
     let s = (goal.at.returns-in-Refused c).Start in
     let a = s.args in
-    let j = refused (first_of (shape_checks a.mode a.size)) a.mode _ (sym c.in-Refused.is ∙ answers s.args.mode (c.check_shape.ensures.number, c.check_shape.ensures.answer)) in
+    let j = refused (first_of (shape_checks a.mode a.size)) a.mode _ (sym c.in-Refused.is ∙ answers s.args.mode c.check_shape.ensures) in
     let r = refused_all _ (passes a.mode a.size a.samples.now a.tolerance) (tried_planes a.mode a.size a.samples.now 0) (was s) (tried_samples a.mode a.size a.samples.now 0) a.second.now j.1 in
     record { number_value = refused-first (shape_checks a.mode a.size) (rest s) j.0 j.1; index_beside = r.index; high_after = r.planes; second_after = r.samples }
 
@@ -47,7 +47,7 @@ pub returns-in-Ready : goal.returns-in-Ready
 unfolding find_number
 returns-in-Ready c =
     let s = (goal.at.returns-in-Ready c).Start in
-    let told = sym c.in-Ready.is ∙ answers s.args.mode (c.check_shape.ensures.number, c.check_shape.ensures.answer) in
+    let told = sym c.in-Ready.is ∙ answers s.args.mode c.check_shape.ensures in
     let e = c.find_sized.ensures in
     let m = (ready (first_of (shape_checks s.args.mode s.args.size)) s.args.mode _ told).1 in
     let kept = subst (Promised s c.find_sized.result.number c.find_sized.result.index _ _) m (e.index_beside, (e.high_after, e.second_after)) in

@@ -15,18 +15,18 @@ unfolding forecast_number
 returns-in-Refused c =
     let a = c.args in
     let work = work_by (mode_of a.mode) a.size in
-    let (first, nothing) = refused_call a.mode a.size [] work (no_work c.in-Refused.number) (sym c.in-Refused.is ∙ answers a.mode (c.check_shape.ensures.number, c.check_shape.ensures.answer)) in
+    let (first, nothing) = refused_call a.mode a.size [] work (no_work c.in-Refused.number) (sym c.in-Refused.is ∙ answers a.mode c.check_shape.ensures) in
     nothing ∙ ap (λ (j : ℕ). settled j work (no_work j)) first
 
 pub work_of-requires : goal.work_of-requires
 work_of-requires c =
     let a = c.args in
-    ready-sized a.mode a.size [] (sym c.in-Ready.is ∙ answers a.mode (c.check_shape.ensures.number, c.check_shape.ensures.answer))
+    ready-sized a.mode a.size [] (sym c.in-Ready.is ∙ answers a.mode c.check_shape.ensures)
 
 pub returns-in-Ready : goal.returns-in-Ready
 unfolding forecast_number
 returns-in-Ready c =
     let a = c.args in
     let number = first_of (shape_checks a.mode a.size) in
-    let (done, mode) = ready number a.mode _ (sym c.in-Ready.is ∙ answers a.mode (c.check_shape.ensures.number, c.check_shape.ensures.answer)) in
+    let (done, mode) = ready number a.mode _ (sym c.in-Ready.is ∙ answers a.mode c.check_shape.ensures) in
     c.work_of.ensures ∙ ap (λ (m : Mode). work_by m a.size) mode ∙ sym (settled-done number _ _ done)

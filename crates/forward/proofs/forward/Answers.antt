@@ -31,14 +31,14 @@ pub forward_sized-requires : goal.forward_sized-requires
 forward_sized-requires c =
     let k = c.before.before.before.before in
     let s = k.before in
-    ready-sized s.args.mode s.args.size (rest s) (sym c.in-Ready.is ∙ answers s.args.mode (c.check_shape.ensures.number, c.check_shape.ensures.answer))
+    ready-sized s.args.mode s.args.size (rest s) (sym c.in-Ready.is ∙ answers s.args.mode c.check_shape.ensures)
 
 pub returns-in-Refused : goal.returns-in-Refused
 unfolding forward_number
 returns-in-Refused c =
     let k = c.before.before in
     let s = k.before in
-    let e = sym c.in-Refused.is ∙ answers s.args.mode (c.check_shape.ensures.number, c.check_shape.ensures.answer) in
+    let e = sym c.in-Refused.is ∙ answers s.args.mode c.check_shape.ensures in
     let law = refused_call s.args.mode s.args.size (rest s) (result s (mode_of s.args.mode)) (was s) e in
     rw (c.refused.ensures.0, c.refused.ensures.1) record { number_value = law.0; wrapped_value = (refused_call s.args.mode s.args.size (rest s) (told s (mode_of s.args.mode)) false e).1; high_after = law.1 }
 
@@ -48,7 +48,7 @@ returns-in-Ready c =
     let d = c.before.before.before in
     let k = d.before.before.before.before.before in
     let s = k.before in
-    let e = sym c.in-Ready.is ∙ answers s.args.mode (c.check_shape.ensures.number, c.check_shape.ensures.answer) in
+    let e = sym c.in-Ready.is ∙ answers s.args.mode c.check_shape.ensures in
     let a = d.forward_sized.ensures in
     let law = ready_call s.args.mode s.args.size (rest s) e (result s) (was s) a.number_value a.high_after in
     record {

@@ -7,9 +7,6 @@ use Rattle.forward_two_edges.proofs.Strips.{place-low, kept-none, corner_filled}
 use Rattle.forward_two_edges.proofs.corner.Goals as goal
 use Rattle.forward_two_edges.proofs.corner.Goals.{After-struct_known-1}
 
-named : {A B : Type 0} → A × B → record { holds : A; kept : B }
-named p = record { holds = p.0; kept = p.1 }
-
 -- the place of the last of the four
 low : (k : After-struct_known-1) → let a = k.before.before.before.args in
     (a.at.samples + 16 * a.size.width.0 + 1 < 256 * macroblocks a.size) × (256 * macroblocks a.size ≤ 55507200)
@@ -43,8 +40,8 @@ returns-then-top-bottom c =
     let g = s.requires.given in
     let some : a.top < a.bottom = omega (arith, k.before.before.if-top-bottom) in
     let e = s.requires.bottom_value some in
-    named (rw e.0 (corner_filled a.size a.samples.now g.sized.wide g.sized.tall g.of-samples a.r a.c a.top a.x a.at.samples _ read.get_corner-filtered.result made.unfiltered-undone.result
-    s.requires.bottom_bound.1 (omega (arith, g.of-strip, s.requires.bottom_bound, e.0)) e.1 s.requires.bottom_bound.2 (omega (arith, s.requires.stands some)) (s.requires.stands some).1 (rw k.before.samples-w.ensures.0 at read.get_corner-filtered.ensures) made.unfiltered-undone.ensures stored.put_corner.ensures))
+    rw e.0 (corner_filled a.size a.samples.now g.sized.wide g.sized.tall g.of-samples a.r a.c a.top a.x a.at.samples _ read.get_corner-filtered.result made.unfiltered-undone.result
+    s.requires.bottom_bound.1 (omega (arith, g.of-strip, s.requires.bottom_bound, e.0)) e.1 s.requires.bottom_bound.2 (omega (arith, s.requires.stands some)) (s.requires.stands some).1 (rw k.before.samples-w.ensures.0 at read.get_corner-filtered.ensures) made.unfiltered-undone.ensures stored.put_corner.ensures)
 
 pub returns-else-top-bottom : goal.returns-else-top-bottom
 returns-else-top-bottom c =

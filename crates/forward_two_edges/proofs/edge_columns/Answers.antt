@@ -8,9 +8,6 @@ use Rattle.forward_two_edges.proofs.Strips.{given_of, place-low, columns_filled,
 use Rattle.forward_two_edges.proofs.edge_columns.Goals as goal
 use Rattle.forward_two_edges.proofs.edge_columns.Goals.{Start}
 
-named : {A B : Type 0} → A × B → record { holds : A; kept : B }
-named p = record { holds = p.0; kept = p.1 }
-
 -- the windows down, and the place after the last of them
 ends : (s : Start) → let a = s.args in (3 ≤ a.down) × (a.down ≤ 4) × (4 * a.r + a.down < 4 * a.size.height.0)
 ends s = rows_down s.requires.given.below s.requires.rows
@@ -83,6 +80,6 @@ returns c =
     let g = s.requires.given in
     let k = s.requires.x_bound in
     let w = m.samples-w.ensures.0 in
-    named (columns_joined g.below s.requires.rows a.c a.x k.0 (d.corner.ensures.holds, d.corner.ensures.kept)
+    columns_joined g.below s.requires.rows a.c a.x k.0 d.corner.ensures
     (columns_filled a.size a.samples.now g.sized.wide g.sized.tall g.of-samples a.r a.c a.x a.down _ _ k.0 (ends s).2 k.1 (omega (arith, w, s.requires.at_value, b.below-second.ensures)) (omega (arith, b.below-second.ensures)) (rw w at e.column_fours-last.ensures.columns))
-    (h.corner-2.ensures.holds, h.corner-2.ensures.kept))
+    h.corner-2.ensures

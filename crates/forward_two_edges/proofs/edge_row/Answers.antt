@@ -7,9 +7,6 @@ use Rattle.forward_two_edges.proofs.Strips.{place-low, spread_none, spread_more,
 use Rattle.forward_two_edges.proofs.edge_row.Goals as goal
 use Rattle.forward_two_edges.proofs.edge_row.Goals.{Start}
 
-named : {A B : Type 0} → A × B → record { holds : A; kept : B }
-named p = record { holds = p.0; kept = p.1 }
-
 -- the place of the end of the row's fours
 low : (s : Start) → (s.args.at.samples + 2 + 4 * s.args.n < 256 * macroblocks s.args.size) × (256 * macroblocks s.args.size ≤ 55507200)
 low s = let a = s.args in place-low a.size s.requires.given.sized (16 * a.r + a.y) (16 * a.c + 2 + 4 * a.n) (omega (arith, s.requires.stands)) s.requires.edge.1 (omega (arith, s.requires.y_bound))
@@ -49,4 +46,4 @@ returns c =
     let a = s.args in
     let g = s.requires.given in
     let all : l.loop-l.l ≡ a.n = omega arith in
-    named (row_filled a.size a.samples.now g.sized.wide g.sized.tall g.of-samples a.r a.c a.y a.n (a.at.samples + 2) (a.at.strip + 2) s.requires.y_bound.1 s.requires.y_bound.2 s.requires.edge.0 s.requires.edge.1 (omega (arith, s.requires.stands)) (omega (arith, s.requires.stands)) (rw all at l.loop-l.invariant.1))
+    row_filled a.size a.samples.now g.sized.wide g.sized.tall g.of-samples a.r a.c a.y a.n (a.at.samples + 2) (a.at.strip + 2) s.requires.y_bound.1 s.requires.y_bound.2 s.requires.edge.0 s.requires.edge.1 (omega (arith, s.requires.stands)) (omega (arith, s.requires.stands)) (rw all at l.loop-l.invariant.1)

@@ -5,9 +5,6 @@ use native.Mathlib.Omega.{arith}
 use Rattle.forward_two_edges.proofs.Strips.{given_of, made_none, made_next, made_all, later_row_few}
 use Rattle.forward_two_edges.proofs.edge_rows.Goals as goal
 
-named : {A B : Type 0} → A × B → record { holds : A; kept : B }
-named p = record { holds = p.0; kept = p.1 }
-
 pub loop-y-init : goal.loop-y-init
 loop-y-init c = let s = c.before.before in let a = s.args in (made_none a.size a.samples.now a.r a.c a.top a.bottom 2 (4 * a.n + 2) a.strip.now, s.requires.stands)
 
@@ -40,10 +37,10 @@ loop-y-preserved c =
     let s = l.before.before.before in
     let a = s.args in
     let v = l.loop-y.invariant in
-    (made_next a.r a.c a.top a.bottom 2 (4 * a.n + 2) l.loop-y.y v.0 (omega (arith, s.requires.bottom_bound)) (omega arith) (d.edge_row.ensures.holds, d.edge_row.ensures.kept), λ h. let e = c.below-row.ensures in let p = v.1 (omega arith) in (omega (arith, p, e, l.before.before.samples-w.ensures.0), omega (arith, p, e)))
+    (made_next a.r a.c a.top a.bottom 2 (4 * a.n + 2) l.loop-y.y v.0 (omega (arith, s.requires.bottom_bound)) (omega arith) d.edge_row.ensures, λ h. let e = c.below-row.ensures in let p = v.1 (omega arith) in (omega (arith, p, e, l.before.before.samples-w.ensures.0), omega (arith, p, e)))
 
 pub shape_of-strip : goal.shape_of-strip
 shape_of-strip c = c.before.loop-y.invariant.0.kept.len
 
 pub returns : goal.returns
-returns c = let l = c.before in let a = l.before.before.before.args in named (made_all a.r a.c a.top a.bottom 2 (4 * a.n + 2) l.loop-y.y l.loop-y.invariant.0 (omega arith))
+returns c = let l = c.before in let a = l.before.before.before.args in made_all a.r a.c a.top a.bottom 2 (4 * a.n + 2) l.loop-y.y l.loop-y.invariant.0 (omega arith)

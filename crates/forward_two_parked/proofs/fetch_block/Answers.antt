@@ -14,9 +14,6 @@ use Rattle.forward_kernel.proofs.Stores.{below-four, four-at}
 use Rattle.forward_two_parked.proofs.Numbers.{block_fetched}
 use Rattle.forward_two_parked.proofs.fetch_block.Goals as goal
 
-named : {A B : Type 0} → A × B → record { by_index : A; kept : B }
-named p = record { by_index = p.0; kept = p.1 }
-
 pub returns : goal.returns
 returns c =
     let second = c.before in
@@ -29,7 +26,7 @@ returns c =
     let a = s.args in
     let high = a.high.now in
     let g : ℕ → ℤ = coefficients a.zero (λ k. at high (a.from + k)) in
-    named (block_fetched g a.x a.strip.now (kept a.zero ∷ kept (at high a.from) ∷ kept (at high (a.from + 1)) ∷ kept (at high (a.from + 2)) ∷ []) read.get_four-second.result s.requires.1 s.requires.2
+    block_fetched g a.x a.strip.now (kept a.zero ∷ kept (at high a.from) ∷ kept (at high (a.from + 1)) ∷ kept (at high (a.from + 2)) ∷ []) read.get_four-second.result s.requires.1 s.requires.2
     (below-four (λ j. at (kept a.zero ∷ kept (at high a.from) ∷ kept (at high (a.from + 1)) ∷ kept (at high (a.from + 2)) ∷ []) j ≡ g j) (to_z-of_z w32 a.zero s.ranges.zero) (back t1.top-1.given ∙ ap (at high) (omega arith)) (back t2.top-2-1.given) (back t3.top-3-1.given))
     (λ j h. four-at (a.from + 3) read.get_four-second.result high read.get_four-second.ensures j h ∙ below-four (λ i. at high (a.from + 3 + i) ≡ g (i + 4)) (ap (at high) (omega arith)) (ap (at high) (omega arith)) (ap (at high) (omega arith)) (ap (at high) (omega arith)) j h)
-    first.put_four.ensures second.put_four-2.ensures)
+    first.put_four.ensures second.put_four-2.ensures

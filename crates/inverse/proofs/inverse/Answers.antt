@@ -31,13 +31,13 @@ told s m = inverse_wraps_by m s.args.size (given s)
 pub inverse_sized-requires : goal.inverse_sized-requires
 inverse_sized-requires c =
     let s = (goal.at.inverse_sized-requires c).Start in
-    ready-sized s.args.mode s.args.size (rest s) (sym c.in-Ready.is ∙ answers s.args.mode (c.check_shape.ensures.number, c.check_shape.ensures.answer))
+    ready-sized s.args.mode s.args.size (rest s) (sym c.in-Ready.is ∙ answers s.args.mode c.check_shape.ensures)
 
 pub returns-in-Refused : goal.returns-in-Refused
 unfolding inverse_number
 returns-in-Refused c =
     let s = (goal.at.returns-in-Refused c).Start in
-    let e = sym c.in-Refused.is ∙ answers s.args.mode (c.check_shape.ensures.number, c.check_shape.ensures.answer) in
+    let e = sym c.in-Refused.is ∙ answers s.args.mode c.check_shape.ensures in
     let law = refused_call s.args.mode s.args.size (rest s) (result s (mode_of s.args.mode)) s.args.samples.now e in
     rw (c.refused.ensures.0, c.refused.ensures.1) record { number_value = law.0; wrapped_value = (refused_call s.args.mode s.args.size (rest s) (told s (mode_of s.args.mode)) false e).1; samples_after = law.1 }
 
@@ -45,7 +45,7 @@ pub returns-in-Ready : goal.returns-in-Ready
 unfolding inverse_number
 returns-in-Ready c =
     let s = (goal.at.returns-in-Ready c).Start in
-    let e = sym c.in-Ready.is ∙ answers s.args.mode (c.check_shape.ensures.number, c.check_shape.ensures.answer) in
+    let e = sym c.in-Ready.is ∙ answers s.args.mode c.check_shape.ensures in
     let a = c.inverse_sized.ensures in
     let law = ready_call s.args.mode s.args.size (rest s) e (result s) s.args.samples.now a.number_value a.samples_after in
     record {

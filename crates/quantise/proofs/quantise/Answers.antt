@@ -22,21 +22,21 @@ rest s = band_checks (macroblocks s.args.size) s.args.steps (read s) (was s)
 
 pub quantise_sized-requires : goal.quantise_sized-requires
 quantise_sized-requires c =
-    let s = c.before.before.before.before.before in
-    ready-sized s.args.mode s.args.size (rest s) (sym c.in-Ready.is ∙ answers s.args.mode (c.check_shape.ensures.number, c.check_shape.ensures.answer))
+    let s = (goal.at.quantise_sized-requires c).Start in
+    ready-sized s.args.mode s.args.size (rest s) (sym c.in-Ready.is ∙ answers s.args.mode c.check_shape.ensures)
 
 pub returns-in-Refused : goal.returns-in-Refused
 unfolding quantise_number
 returns-in-Refused c =
-    let s = c.before.before in
-    let (number, nothing) = refused_call s.args.mode s.args.size (rest s) (quantised_planes s.args.steps (read s)) (was s) (sym c.in-Refused.is ∙ answers s.args.mode (c.check_shape.ensures.number, c.check_shape.ensures.answer)) in
+    let s = (goal.at.returns-in-Refused c).Start in
+    let (number, nothing) = refused_call s.args.mode s.args.size (rest s) (quantised_planes s.args.steps (read s)) (was s) (sym c.in-Refused.is ∙ answers s.args.mode c.check_shape.ensures) in
     record { value = number; high_levels_after = nothing }
 
 pub returns-in-Ready : goal.returns-in-Ready
 unfolding quantise_number
 returns-in-Ready c =
-    let s = c.before.before.before.before.before.before.before.before.before in
+    let s = (goal.at.returns-in-Ready c).Start in
     record {
-      value = ready-number s.args.mode s.args.size (rest s) (sym c.in-Ready.is ∙ answers s.args.mode (c.check_shape.ensures.number, c.check_shape.ensures.answer)) c.quantise_sized.ensures.value;
+      value = ready-number s.args.mode s.args.size (rest s) (sym c.in-Ready.is ∙ answers s.args.mode c.check_shape.ensures) c.quantise_sized.ensures.value;
       high_levels_after = c.quantise_sized.ensures.high_levels_after;
     }

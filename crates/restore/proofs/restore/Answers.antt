@@ -21,21 +21,21 @@ rest s = restore_checks (macroblocks s.args.size) s.args.steps (read s) (was s)
 
 pub restore_sized-requires : goal.restore_sized-requires
 restore_sized-requires c =
-    let s = c.before.before.before.before.before in
-    ready-sized s.args.mode s.args.size (rest s) (sym c.in-Ready.is ∙ answers s.args.mode (c.check_shape.ensures.number, c.check_shape.ensures.answer))
+    let s = (goal.at.restore_sized-requires c).Start in
+    ready-sized s.args.mode s.args.size (rest s) (sym c.in-Ready.is ∙ answers s.args.mode c.check_shape.ensures)
 
 pub returns-in-Refused : goal.returns-in-Refused
 unfolding restore_number
 returns-in-Refused c =
-    let s = c.before.before in
-    let (number, nothing) = refused_call s.args.mode s.args.size (rest s) (restored_planes s.args.steps (read s)) (was s) (sym c.in-Refused.is ∙ answers s.args.mode (c.check_shape.ensures.number, c.check_shape.ensures.answer)) in
+    let s = (goal.at.returns-in-Refused c).Start in
+    let (number, nothing) = refused_call s.args.mode s.args.size (rest s) (restored_planes s.args.steps (read s)) (was s) (sym c.in-Refused.is ∙ answers s.args.mode c.check_shape.ensures) in
     record { value = number; high_after = nothing }
 
 pub returns-in-Ready : goal.returns-in-Ready
 unfolding restore_number
 returns-in-Ready c =
-    let s = c.before.before.before.before.before.before.before.before.before in
+    let s = (goal.at.returns-in-Ready c).Start in
     record {
-      value = ready-number s.args.mode s.args.size (rest s) (sym c.in-Ready.is ∙ answers s.args.mode (c.check_shape.ensures.number, c.check_shape.ensures.answer)) c.restore_sized.ensures.value;
+      value = ready-number s.args.mode s.args.size (rest s) (sym c.in-Ready.is ∙ answers s.args.mode c.check_shape.ensures) c.restore_sized.ensures.value;
       high_after = c.restore_sized.ensures.high_after;
     }

@@ -31,26 +31,26 @@ pub returns-in-Refused : goal.returns-in-Refused
 returns-in-Refused c =
     let w = c.args.w in
     let v = c.size-size.result in
-    by-words w v c.size-size.ensures (sym (refused_call w.mode v (layout_checks w) w w (sym c.in-Refused.is ∙ answers w.mode (c.check_shape-shape.ensures.number, c.check_shape-shape.ensures.answer))).0)
+    by-words w v c.size-size.ensures (sym (refused_call w.mode v (layout_checks w) w w (sym c.in-Refused.is ∙ answers w.mode c.check_shape-shape.ensures)).0)
 
 pub returns-then-w-ne0 : goal.returns-then-w-ne0
 returns-then-w-ne0 c =
-    let e = sym c.in_default.is ∙ answers c.args.w.mode (c.check_shape-shape.ensures.number, c.check_shape-shape.ensures.answer) in
+    let e = sym c.in_default.is ∙ answers c.args.w.mode c.check_shape-shape.ensures in
     passed c.args.w c.size-size.result c.size-size.ensures e (simp (ne_eqb _ _ c.if-w-ne0.true))
 
 pub macroblocks-requires : goal.macroblocks-requires
 macroblocks-requires c =
-    let e = sym c.in_default.is ∙ answers c.args.w.mode (c.check_shape-shape.ensures.number, c.check_shape-shape.ensures.answer) in
+    let e = sym c.in_default.is ∙ answers c.args.w.mode c.check_shape-shape.ensures in
     ready-sized c.args.w.mode c.size-size.result (layout_checks c.args.w) e
 
 pub returns-then-misplaced : goal.returns-then-misplaced
 returns-then-misplaced c =
-    let e = sym c.in_default.is ∙ answers c.args.w.mode (c.check_shape-shape.ensures.number, c.check_shape-shape.ensures.answer) in
+    let e = sym c.in_default.is ∙ answers c.args.w.mode c.check_shape-shape.ensures in
     let placed = laid c.args.w c.if-w-ne0.false (c.macroblocks.ensures.0 ∙ ap macroblocks c.size-size.ensures) c.misplaced.ensures in
     passed c.args.w c.size-size.result c.size-size.ensures e (sym (placed ∙ ap (λ (b : Bool). first_of ((offsets if b) ∷ [])) c.if-misplaced.true))
 
 pub returns : goal.returns
 returns c =
-    let e = sym c.in_default.is ∙ answers c.args.w.mode (c.check_shape-shape.ensures.number, c.check_shape-shape.ensures.answer) in
+    let e = sym c.in_default.is ∙ answers c.args.w.mode c.check_shape-shape.ensures in
     let placed = laid c.args.w c.if-w-ne0.false (c.macroblocks.ensures.0 ∙ ap macroblocks c.size-size.ensures) c.misplaced.ensures in
     passed c.args.w c.size-size.result c.size-size.ensures e (sym (placed ∙ ap (λ (b : Bool). first_of ((offsets if b) ∷ [])) c.if-misplaced.false))

@@ -20,7 +20,7 @@ pub save_sized-requires : goal.save_sized-requires
 save_sized-requires c =
     let a = c.args in
     let given = planes a.dc.now a.low.now a.high.now in
-    ready-sized a.mode a.size (rest a.size given a.bytes.now) (sym c.in-Ready.is ∙ answers a.mode (c.check_shape.ensures.number, c.check_shape.ensures.answer))
+    ready-sized a.mode a.size (rest a.size given a.bytes.now) (sym c.in-Ready.is ∙ answers a.mode c.check_shape.ensures)
 
 pub returns-in-Refused : goal.returns-in-Refused
 unfolding save_number
@@ -28,7 +28,7 @@ returns-in-Refused c =
     let a = c.args in
     let given = planes a.dc.now a.low.now a.high.now in
     let result = file a.mode a.size given in
-    let (e, u) = refused_call a.mode a.size (rest a.size given a.bytes.now) result a.bytes.now (sym c.in-Refused.is ∙ answers a.mode (c.check_shape.ensures.number, c.check_shape.ensures.answer)) in
+    let (e, u) = refused_call a.mode a.size (rest a.size given a.bytes.now) result a.bytes.now (sym c.in-Refused.is ∙ answers a.mode c.check_shape.ensures) in
     record { value = e; bytes_after = u ∙ ap (λ (j : ℕ). settled j result a.bytes.now) e }
 
 pub returns-in-Ready : goal.returns-in-Ready
@@ -37,5 +37,5 @@ returns-in-Ready c =
     let a = c.args in
     let given = planes a.dc.now a.low.now a.high.now in
     let result = file a.mode a.size given in
-    let e = ready-number a.mode a.size (rest a.size given a.bytes.now) (sym c.in-Ready.is ∙ answers a.mode (c.check_shape.ensures.number, c.check_shape.ensures.answer)) c.save_sized.ensures.value in
+    let e = ready-number a.mode a.size (rest a.size given a.bytes.now) (sym c.in-Ready.is ∙ answers a.mode c.check_shape.ensures) c.save_sized.ensures.value in
     record { value = e; bytes_after = c.save_sized.ensures.bytes_after ∙ ap (λ (j : ℕ). settled j result a.bytes.now) e }
