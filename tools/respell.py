@@ -18,6 +18,8 @@ PAGES = ["README.md", "CONTRIBUTING.md", "docs/ARCHITECTURE.md", "docs/CLAIMS.md
 DECLARED = re.compile(r"^ {0,2}(?:abbrev |unfoldable |pub )*([^\s:(){}λ,.;]+) :\s")
 # An identifier, its parts not joined to anything else: `.` separates the parts of a path.
 TOKEN = re.compile(r"(?<![\w'?-])[^\W\d_][\w'?-]*")
+# How a line that is no code begins, by a file's ending.
+COMMENT = {"antt": r"^\s*--", "rt": r"^\s*//", "edit": r"^(?!old: |new: )"}
 # Words of the library that lemmas are named after.
 LIBRARY = set("""length get put set map take drop append fold sum neg add sub mul abs mag list head tail low32 wrap pos negsuc
 and or not cond div mod min max pow digits reverse zip filter""".split())
@@ -103,7 +105,7 @@ def turned(path, text, new_names):
 
     if path.endswith(".md"):
         return re.sub(r"`[^`\n]+`", lambda m: put(new_names, m.group(0)), text)
-    mark = {"antt": r"^\s*--", ".rt": r"^\s*//", "edit": r"^(?!old: |new: )"}[path[-4:] if path[-3:] != ".rt" else ".rt"]
+    mark = COMMENT[path.rsplit(".", 1)[1]]
     return "\n".join(put(camel if re.match(mark, line) else new_names, line) for line in text.split("\n"))
 
 

@@ -14,9 +14,8 @@ fn promises(path: &str, marked: &str) -> BTreeMap<String, String> {
         let (promise, _) = text.split_once("\n{\n").expect("a function has a body");
         let (name, promise) = promise.split_once('(').expect("a function has parameters");
         let words: Vec<&str> = promise.split_whitespace().collect();
-        // The layout breaks long lists of parameters, and sets a comma behind the last.
-        let promise = words.join(" ").replace("( ", "(").replace(", )", ")");
-        functions.insert(name.to_string(), promise.trim_start().replace(", ) ->", ") ->"));
+        // Where the layout breaks a list of parameters, it sets a comma behind the last.
+        functions.insert(name.to_string(), words.join(" ").replace(", )", ")"));
     }
     functions
 }
