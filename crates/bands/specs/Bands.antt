@@ -1,5 +1,5 @@
 -- The three bands of a picture, each with the step of its own index (02, a).
-use Rattle.std.specs.Prelude.{ℕ, ◌≤◌, ◌≡◌, Bool, false, ◌||◌, List, [], ◌∷◌, map, ℤ, length}
+use Rattle.std.specs.Prelude.{ℕ, ◌≡◌, Bool, false, ◌||◌, List, [], ◌∷◌, map, ℤ, length}
 use Rattle.picture.specs.Planes.{Planes, planes}
 use Rattle.step_sizes.specs.Steps.{step_of}
 use Rattle.step_sizes.specs.Levels.{is_out_of_range}
@@ -14,12 +14,7 @@ abbrev pub any_out : List ℤ → Bool
 any_out [] = false
 any_out (x ∷ xs) = is_out_of_range x || any_out xs
 
--- ---- what the work behind the calls asks: indices of the table, and planes of the same lengths
-
-pub record Indexed (steps : Steps) : Type 0 where
-  pub dc : steps.dc ≤ 255
-  pub low : steps.low ≤ 255
-  pub high : steps.high ≤ 255
+-- ---- what the work behind the calls asks: planes of the same lengths
 
 pub record SameLengths (s t : Planes) : Type 0 where
   pub dc : length s.dc ≡ length t.dc

@@ -1,13 +1,18 @@
 // The step indices of the three bands, and the checks that quantising and restoring share.
-ghost use Rattle.std.specs.Prelude.{◌≡◌, ◌≤◌};
-ghost use Rattle.picture.specs.Numbers.{first_of};
-ghost use Rattle.picture.specs.Planes.{planes};
-ghost use Rattle.bands.specs.Numbers.{step_check, band_checks};
+ghost use Rattle.std.specs.Prelude.{◌≡◌, ◌++◌, IfOk, OnOk};
+ghost use Rattle.picture.specs.Sizes.{macroblocks};
+ghost use Rattle.picture.specs.Refusals.{number_of};
+ghost use Rattle.picture.specs.Numbers.{first_of, shape_checks};
+ghost use Rattle.bands.specs.Bands.{SameLengths};
+ghost use Rattle.bands.specs.Numbers.{GivesIndices, band_checks};
 
-use picture::checks::check_planes;
-use picture::counts::Area;
-use picture::refusals::STEP_INDEX;
+use picture::frame::Frame;
+use picture::planes::Planes;
+use picture::refusals::Refusal;
+use picture::size::Size;
+use std::marker::Model;
 
+// Step indices as anyone may fill them in.
 #[repr(C)]
 #[derive(Clone, Copy)]
 pub struct Steps {
@@ -16,44 +21,59 @@ pub struct Steps {
     pub high: u32,
 }
 
-// The number of an index above 255, whichever band it is of, or 0.
-fn check_steps(steps: Steps) -> u32
-    ensures { result ≡ first_of (step_check steps) }
-{
-    if 255 < steps.dc {
-        return STEP_INDEX;
-    }
-    if 255 < steps.low {
-        return STEP_INDEX;
-    }
-    if 255 < steps.high {
-        return STEP_INDEX;
-    }
-    0
+// Step indices of the table. Contracts see them as the plain ones.
+#[derive(Clone, Copy)]
+pub struct Indices {
+    pub dc: u8,
+    pub low: u8,
+    pub high: u8,
 }
 
-// The number of the first check that fails of the step indices, the planes read and the planes written, or 0.
+impl Model for Indices {
+    ghost use Rattle.bands.specs.declared.steps.Steps.{Steps};
+
+    ghost Value = { Steps };
+
+    ghost view = { λ indices. record { dc = indices.dc; low = indices.low; high = indices.high } };
+
+    ghost inverse = { λ steps. record { dc = steps.dc; low = steps.low; high = steps.high } };
+}
+
+impl TryFrom<Steps> for Indices {
+    type Error = Refusal;
+
+    ghost try_from_gives = { GivesIndices };
+
+    fn try_from(steps: Steps) -> Result<Indices, Refusal> {
+        match (
+            u8::try_from(steps.dc),
+            u8::try_from(steps.low),
+            u8::try_from(steps.high),
+        ) {
+            (Ok(dc), Ok(low), Ok(high)) => Ok(Indices { dc, low, high }),
+            _ => Err(Refusal::StepIndex),
+        }
+    }
+}
+
+// The step indices, once all that quantising and restoring share is checked: mode, size, the step indices, and the lengths of the planes read and of
+// those written.
 pub fn check_bands(
-    n: Area,
+    mode: u32,
+    size: Size,
     steps: Steps,
-    dc: &[i32],
-    low: &[i32],
-    high: &[i32],
-    dc_into: &[i32],
-    low_into: &[i32],
-    high_into: &[i32],
-) -> u32
-    requires { n.0 ≤ 216825 }
-    ensures { result ≡
-        first_of (band_checks n.0 steps (planes dc.now low.now high.now) (planes dc_into.now low_into.now high_into.now)) }
+    read: &Planes,
+    written: &Planes,
+) -> Result<Indices, Refusal>
+    ensures number { number_of result ≡
+        first_of (shape_checks mode size ++ band_checks (macroblocks size) steps read.now written.now) }
+    ensures same { IfOk result (λ indices. indices ≡ steps) }
+    ensures alike { OnOk result (SameLengths read.now written.now) }
 {
-    let steps_number = check_steps(steps);
-    if steps_number != 0 {
-        return steps_number;
-    }
-    let read_number = check_planes(n, dc, low, high);
-    if read_number != 0 {
-        return read_number;
-    }
-    check_planes(n, dc_into, low_into, high_into)
+    let frame = Frame::new(mode, size)?;
+    let indices = Indices::try_from(steps)?;
+    let n = frame.size.macroblocks();
+    read.check(n)?;
+    written.check(n)?;
+    Ok(indices)
 }

@@ -3,12 +3,13 @@
 
 pub mod stage; // stage.rt: the stage that Figures 4.8 and 4.14 share
 
-ghost use Rattle.std.specs.Prelude.{◌≡◌, [], ◌∷◌, ◌<◌};
+ghost use Rattle.std.specs.Prelude.{◌≡◌, ◌||◌, [], ◌∷◌, ◌<◌};
 ghost use Rattle.lifting.specs.Program.{get, at as number};
 ghost use Rattle.figures.specs.Block.{flat, list};
 ghost use Rattle.blocks.specs.Quads.{quartered as quarteredList, mirrored as mirroredList};
 
 use figures::Four;
+use lifting::told::Told;
 
 #[derive(Clone, Copy)]
 pub struct Quads {
@@ -16,13 +17,6 @@ pub struct Quads {
     pub q: Four,
     pub r: Four,
     pub s: Four,
-}
-
-// The same, with whether a reduction changed a number
-#[derive(Clone, Copy)]
-pub struct ToldQuads {
-    pub quads: Quads,
-    pub wrapped: bool,
 }
 
 // Coefficient k of a block
@@ -89,13 +83,6 @@ pub fn quartered(f: Quads) -> [[i32; 4]; 4]
     ]
 }
 
-// A four as a row of a block
-pub fn row(f: Four) -> [i32; 4]
-    ensures { result ≡ list f }
-{
-    [f.a, f.b, f.c, f.d]
-}
-
 // A block as its quarters
 pub fn quarters(b: [[i32; 4]; 4]) -> Quads
     ensures { quarteredList result ≡ flat b }
@@ -105,4 +92,21 @@ pub fn quarters(b: [[i32; 4]; 4]) -> Quads
     let r = pick(b, 8, 12, 9, 13);
     let s = pick(b, 10, 11, 14, 15);
     Quads { p, q, r, s }
+}
+
+// Four told fours as one told value
+pub fn joined(p: Told<Four>, q: Told<Four>, r: Told<Four>, s: Told<Four>) -> Told<Quads>
+    ensures fours { (result.value.p ≡ p.value) × (result.value.q ≡ q.value) × (result.value.r ≡ r.value) × (result.value.s ≡ s.value) }
+    ensures told { result.wrapped ≡ p.wrapped || q.wrapped || r.wrapped || s.wrapped }
+{
+    let value = Quads {
+        p: p.value,
+        q: q.value,
+        r: r.value,
+        s: s.value,
+    };
+    Told {
+        value,
+        wrapped: p.wrapped | q.wrapped | r.wrapped | s.wrapped,
+    }
 }

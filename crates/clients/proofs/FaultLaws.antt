@@ -10,7 +10,8 @@ use lib.IntN.{ℤ}
 use lib.ListN.{length}
 use borrow.Author.Tests.{lt-ltb, le-ltb, le-leb, lt-leb, eq-eqb}
 use Rattle.picture.specs.declared.size.Size.{Size}
-use Rattle.picture.specs.Modes.{mode_answer, mode_number}
+use Rattle.picture.specs.Modes.{mode_answer}
+use Rattle.picture.specs.Refusals.{number_of}
 use Rattle.picture.specs.Planes.{Planes}
 use Rattle.picture.specs.Numbers.{◌if◌, first_of, settled, outside, unlike, shape_checks, low_checks, plane_checks, sample_check}
 use Rattle.picture.proofs.NumberLaws.{settled-done, settled-refused}
@@ -43,10 +44,10 @@ first_fault {k} {F} {rest} {x} {checks} t found passed r =
 
 -- ---- mode and size
 
-unknown : (mode : ℕ) → 2 < mode → mode_number (mode_answer mode) ≡ 1
+unknown : (mode : ℕ) → 2 < mode → number_of (mode_answer mode) ≡ 1
 unknown mode h = simp (lt-leb mode 2 h)
 
-known : (mode : ℕ) → mode ≤ 2 → mode_number (mode_answer mode) ≡ 0
+known : (mode : ℕ) → mode ≤ 2 → number_of (mode_answer mode) ≡ 0
 known mode h = simp (le-leb mode 2 h)
 
 pub or_true : (a : Bool) → a || true ≡ true

@@ -2,7 +2,7 @@
 use Prim.Native.Nat.{ℕ, zero, suc, ◌*◌, ◌<◌, ◌≤◌}
 use mathlib.Core.Path.{◌≡◌, refl, sym, ap, ◌∙◌, subst}
 use mathlib.Core.Bool.{Bool, false}
-use mathlib.Core.List.{List}
+use mathlib.Core.List.{List, ◌++◌}
 use mathlib.Core.Logic.{◌⊎◌, inl, inr}
 use native.Mathlib.Omega.{arith}
 use lib.IntN.{ℤ, nat_abs, ◌-ℤ◌}
@@ -14,14 +14,13 @@ use Rattle.picture.specs.declared.size.Size.{Size}
 use Rattle.picture.specs.Sizes.{macroblocks}
 use Rattle.picture.specs.Planes.{Planes}
 use Rattle.transform.specs.Transform.{inverse, forward}
-use Rattle.picture.specs.Numbers.{settled, shape_checks}
+use Rattle.picture.specs.Numbers.{settled, shape_checks, sample_check, plane_checks}
 use Rattle.picture.proofs.NumberLaws.{both_pass, settled-done}
-use Rattle.picture.proofs.CheckLaws.{shaped}
+use Rattle.picture.proofs.CheckLaws.{shaped, samples-fit}
 use Rattle.restore.specs.Restore.{restored_planes}
 use Rattle.quantise.specs.Quantise.{quantised_planes}
 use Rattle.tries.specs.Tries.{all_bands, passes, tried_planes, tried_samples}
 use Rattle.find_step.specs.FindStep.{Answer, IndexBeside, find_number, length_checks}
-use Rattle.find_step.proofs.Checks.{lengths_fit}
 use Rattle.corollaries.proofs.Sizes.{numbers}
 use Rattle.corollaries.proofs.Finder.{try_is_the_four_calls, answers_keep_the_tolerance}
 use Rattle.clients.specs.Right.{count}
@@ -35,10 +34,11 @@ module _ (mode : ℕ) (size : Size) (tolerance : ℕ) (samples : List ℤ) where
   kept second s index {number} {left} row e beside left_by z i l =
       let checks = length_checks (macroblocks size) samples second s in
       let (first, rest) = both_pass (shape_checks mode size) checks (sym e ∙ z) in
-      let fits = lengths_fit (macroblocks size) samples second s rest in
+      let (long, others) = both_pass (sample_check (macroblocks size) samples) (sample_check (macroblocks size) second ++ plane_checks (macroblocks size) s) rest in
+      let fits = samples-fit (macroblocks size) samples long in
       let answer : Answer (passes mode size samples tolerance) index = subst (λ (k : ℕ). IndexBeside k (passes mode size samples tolerance) index) z beside in
       let r = shaped mode size first in
-      let near = answers_keep_the_tolerance mode size.width.0 size.height.0 r.known r.sized.wide r.sized.most-wide r.sized.tall r.sized.most-tall samples (numbers (row_as row fits.samples)) tolerance index answer in
+      let near = answers_keep_the_tolerance mode size.width.0 size.height.0 r.known r.sized.wide r.sized.most-wide r.sized.tall r.sized.most-tall samples (numbers (row_as row fits)) tolerance index answer in
       subst (λ (v : List ℤ). nat_abs (at samples i -ℤ at v i) ≤ tolerance) (sym (left_by ∙ settled-done number _ _ z)) (near i l)
 
 -- ---- what else is found

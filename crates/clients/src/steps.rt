@@ -12,7 +12,7 @@ ghost use Rattle.clients.specs.Faults.{QuantiseFaults, RestoreFaults, FindFaults
 
 use crate::ranges::in_range;
 use bands::steps::Steps;
-use find_step::Found;
+use find_step::found::Found;
 use lapped::{lapped_find_step, lapped_quantise, lapped_restore, lapped_step};
 use picture::size::Size;
 

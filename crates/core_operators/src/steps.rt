@@ -8,7 +8,7 @@ use lifting::shift;
 use lifting::told::{Told, add_told, thrice_told};
 
 // (y + k) >> s
-pub fn rounded_told(tell: bool, y: i32, k: i32, s: u32) -> Told
+pub fn rounded_told(tell: bool, y: i32, k: i32, s: u32) -> Told<i32>
     requires { s < 32 }
     ensures value { result.value ≡ shr_z (wrap (y +ℤ k)) (2 ^ s) }
     ensures told { result.wrapped ≡ tell && changes (y +ℤ k) }
@@ -21,7 +21,7 @@ pub fn rounded_told(tell: bool, y: i32, k: i32, s: u32) -> Told
 }
 
 // (3 y + k) >> s
-pub fn scaled_told(tell: bool, y: i32, k: i32, s: u32) -> Told
+pub fn scaled_told(tell: bool, y: i32, k: i32, s: u32) -> Told<i32>
     requires { s < 32 }
     ensures value { result.value ≡ shr_z (wrap (wrap (pos 3 *ℤ y) +ℤ k)) (2 ^ s) }
     ensures told { result.wrapped ≡ tell && (changes (pos 3 *ℤ y) || changes (wrap (pos 3 *ℤ y) +ℤ k)) }

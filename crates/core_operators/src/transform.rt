@@ -1,5 +1,5 @@
-// What the core transform is made of: the 2 x 2 Hadamard, odd and odd-odd operators (Figures 4.4 to 4.6). The told form of each is its text: beside the
-// four numbers it says, where `tell` asks, whether a reduction changed a number. The plain form is the told one with nothing asked.
+// What the core transform is made of: the 2 x 2 Hadamard, odd and odd-odd operators (Figures 4.4 to 4.6). Beside its four numbers each says, where `tell`
+// asks, whether a reduction changed a number.
 ghost use Rattle.std.specs.Prelude.{◌≡◌, ◌&&◌};
 ghost use Rattle.lifting.specs.Program.{run, undo};
 ghost use Rattle.lifting.specs.Wraps.{wraps, undo_wraps};
@@ -8,21 +8,18 @@ ghost use Rattle.figures.specs.Block.{list};
 ghost use Rattle.figures.specs.Pieces.{odd_odd_rounded};
 
 use crate::steps::{rounded_told, scaled_told};
-use figures::{Four, ToldFour};
+use figures::Four;
 use lifting::shift;
-use lifting::told::{add_told, negate_told, sub_told};
+use lifting::told::{Told, add_told, negate_told, sub_told};
 
 // Figure 4.4. Undone from its last line to its first it takes the same steps, so that it is its own undoing.
-pub fn hadamard_told(tell: bool, v: Four, r: i32) -> ToldFour
-    ensures done { list result.four ≡ run (hadamardLines r) (list v) }
-    ensures undone { list result.four ≡ undo (hadamardLines r) (list v) }
+pub fn hadamard_told(tell: bool, v: Four, r: i32) -> Told<Four>
+    ensures done { list result.value ≡ run (hadamardLines r) (list v) }
+    ensures undone { list result.value ≡ undo (hadamardLines r) (list v) }
     ensures told { result.wrapped ≡ tell && wraps (hadamardLines r) (list v) }
     ensures untold { result.wrapped ≡ tell && undo_wraps (hadamardLines r) (list v) }
 {
-    let a = v.a;
-    let b = v.b;
-    let c = v.c;
-    let d = v.d;
+    let Four { a, b, c, d } = v;
     let a1 = add_told(tell, a, d);
     let b1 = sub_told(tell, b, c);
     let e1 = sub_told(tell, a1.value, b1.value);
@@ -31,14 +28,14 @@ pub fn hadamard_told(tell: bool, v: Four, r: i32) -> ToldFour
     let d1 = sub_told(tell, t.value, c);
     let a2 = sub_told(tell, a1.value, d1.value);
     let b2 = add_told(tell, b1.value, c1.value);
-    let four = Four {
+    let value = Four {
         a: a2.value,
         b: b2.value,
         c: c1.value,
         d: d1.value,
     };
-    ToldFour {
-        four,
+    Told {
+        value,
         wrapped: a1.wrapped
             | b1.wrapped
             | e1.wrapped
@@ -50,22 +47,12 @@ pub fn hadamard_told(tell: bool, v: Four, r: i32) -> ToldFour
     }
 }
 
-pub fn hadamard(v: Four, r: i32) -> Four
-    ensures done { list result ≡ run (hadamardLines r) (list v) }
-    ensures undone { list result ≡ undo (hadamardLines r) (list v) }
-{
-    hadamard_told(false, v, r).four
-}
-
 // Figure 4.5
-pub fn odd_told(tell: bool, v: Four) -> ToldFour
-    ensures done { list result.four ≡ run oddLines (list v) }
+pub fn odd_told(tell: bool, v: Four) -> Told<Four>
+    ensures done { list result.value ≡ run oddLines (list v) }
     ensures told { result.wrapped ≡ tell && wraps oddLines (list v) }
 {
-    let a = v.a;
-    let b = v.b;
-    let c = v.c;
-    let d = v.d;
+    let Four { a, b, c, d } = v;
     let b1 = add_told(tell, b, d);
     let a1 = sub_told(tell, a, c);
     let d1 = sub_told(tell, d, shift(b1.value, 1));
@@ -85,14 +72,14 @@ pub fn odd_told(tell: bool, v: Four) -> ToldFour
     let d3 = sub_told(tell, e7.value, d2.value);
     let b3 = add_told(tell, b2.value, c3.value);
     let a3 = sub_told(tell, a2.value, d3.value);
-    let four = Four {
+    let value = Four {
         a: a3.value,
         b: b3.value,
         c: c3.value,
         d: d3.value,
     };
-    ToldFour {
-        four,
+    Told {
+        value,
         wrapped: b1.wrapped
             | a1.wrapped
             | d1.wrapped
@@ -115,21 +102,12 @@ pub fn odd_told(tell: bool, v: Four) -> ToldFour
     }
 }
 
-pub fn odd(v: Four) -> Four
-    ensures { list result ≡ run oddLines (list v) }
-{
-    odd_told(false, v).four
-}
-
 // Figure 4.5 undone
-pub fn undo_odd_told(tell: bool, v: Four) -> ToldFour
-    ensures done { list result.four ≡ undo oddLines (list v) }
+pub fn undo_odd_told(tell: bool, v: Four) -> Told<Four>
+    ensures done { list result.value ≡ undo oddLines (list v) }
     ensures told { result.wrapped ≡ tell && undo_wraps oddLines (list v) }
 {
-    let a = v.a;
-    let b = v.b;
-    let c = v.c;
-    let d = v.d;
+    let Four { a, b, c, d } = v;
     let a1 = add_told(tell, a, d);
     let b1 = sub_told(tell, b, c);
     let e1 = rounded_told(tell, a1.value, 1, 1);
@@ -149,14 +127,14 @@ pub fn undo_odd_told(tell: bool, v: Four) -> ToldFour
     let d3 = add_told(tell, d2.value, shift(b2.value, 1));
     let a3 = add_told(tell, a2.value, c3.value);
     let b3 = sub_told(tell, b2.value, d3.value);
-    let four = Four {
+    let value = Four {
         a: a3.value,
         b: b3.value,
         c: c3.value,
         d: d3.value,
     };
-    ToldFour {
-        four,
+    Told {
+        value,
         wrapped: a1.wrapped
             | b1.wrapped
             | e1.wrapped
@@ -179,21 +157,12 @@ pub fn undo_odd_told(tell: bool, v: Four) -> ToldFour
     }
 }
 
-pub fn undo_odd(v: Four) -> Four
-    ensures { list result ≡ undo oddLines (list v) }
-{
-    undo_odd_told(false, v).four
-}
-
 // The lines that Figures 4.6 and 4.12 share, with their two roundings
-pub fn odd_odd_rounded_told(tell: bool, v: Four, k: i32, l: i32) -> ToldFour
-    ensures done { list result.four ≡ run (odd_odd_rounded k l) (list v) }
+pub fn odd_odd_rounded_told(tell: bool, v: Four, k: i32, l: i32) -> Told<Four>
+    ensures done { list result.value ≡ run (odd_odd_rounded k l) (list v) }
     ensures told { result.wrapped ≡ tell && wraps (odd_odd_rounded k l) (list v) }
 {
-    let a = v.a;
-    let b = v.b;
-    let c = v.c;
-    let d = v.d;
+    let Four { a, b, c, d } = v;
     let d1 = add_told(tell, d, a);
     let c1 = sub_told(tell, c, b);
     let t1 = shift(d1.value, 1);
@@ -210,14 +179,14 @@ pub fn odd_odd_rounded_told(tell: bool, v: Four, k: i32, l: i32) -> ToldFour
     let a4 = add_told(tell, a3.value, t1);
     let c2 = add_told(tell, c1.value, b3.value);
     let d2 = sub_told(tell, d1.value, a4.value);
-    let four = Four {
+    let value = Four {
         a: a4.value,
         b: b3.value,
         c: c2.value,
         d: d2.value,
     };
-    ToldFour {
-        four,
+    Told {
+        value,
         wrapped: d1.wrapped
             | c1.wrapped
             | a1.wrapped
@@ -236,14 +205,11 @@ pub fn odd_odd_rounded_told(tell: bool, v: Four, k: i32, l: i32) -> ToldFour
 }
 
 // The same undone
-pub fn undo_odd_odd_rounded_told(tell: bool, v: Four, k: i32, l: i32) -> ToldFour
-    ensures done { list result.four ≡ undo (odd_odd_rounded k l) (list v) }
+pub fn undo_odd_odd_rounded_told(tell: bool, v: Four, k: i32, l: i32) -> Told<Four>
+    ensures done { list result.value ≡ undo (odd_odd_rounded k l) (list v) }
     ensures told { result.wrapped ≡ tell && undo_wraps (odd_odd_rounded k l) (list v) }
 {
-    let a = v.a;
-    let b = v.b;
-    let c = v.c;
-    let d = v.d;
+    let Four { a, b, c, d } = v;
     let d1 = add_told(tell, d, a);
     let c1 = sub_told(tell, c, b);
     let t1 = shift(d1.value, 1);
@@ -260,14 +226,14 @@ pub fn undo_odd_odd_rounded_told(tell: bool, v: Four, k: i32, l: i32) -> ToldFou
     let a4 = add_told(tell, a3.value, t1);
     let c2 = add_told(tell, c1.value, b3.value);
     let d2 = sub_told(tell, d1.value, a4.value);
-    let four = Four {
+    let value = Four {
         a: a4.value,
         b: b3.value,
         c: c2.value,
         d: d2.value,
     };
-    ToldFour {
-        four,
+    Told {
+        value,
         wrapped: d1.wrapped
             | c1.wrapped
             | a1.wrapped
@@ -286,35 +252,29 @@ pub fn undo_odd_odd_rounded_told(tell: bool, v: Four, k: i32, l: i32) -> ToldFou
 }
 
 // Figure 4.6
-pub fn odd_odd_told(tell: bool, v: Four) -> ToldFour
-    ensures done { list result.four ≡ run oddOddLines (list v) }
+pub fn odd_odd_told(tell: bool, v: Four) -> Told<Four>
+    ensures done { list result.value ≡ run oddOddLines (list v) }
     ensures told { result.wrapped ≡ tell && wraps oddOddLines (list v) }
 {
     let o = odd_odd_rounded_told(tell, v, 3, 3);
-    let f = o.four;
+    let f = o.value;
     let b = negate_told(tell, f.b);
     let c = negate_told(tell, f.c);
-    let four = Four {
+    let value = Four {
         a: f.a,
         b: b.value,
         c: c.value,
         d: f.d,
     };
-    ToldFour {
-        four,
+    Told {
+        value,
         wrapped: o.wrapped | b.wrapped | c.wrapped,
     }
 }
 
-pub fn odd_odd(v: Four) -> Four
-    ensures { list result ≡ run oddOddLines (list v) }
-{
-    odd_odd_told(false, v).four
-}
-
 // Figure 4.6 undone
-pub fn undo_odd_odd_told(tell: bool, v: Four) -> ToldFour
-    ensures done { list result.four ≡ undo oddOddLines (list v) }
+pub fn undo_odd_odd_told(tell: bool, v: Four) -> Told<Four>
+    ensures done { list result.value ≡ undo oddOddLines (list v) }
     ensures told { result.wrapped ≡ tell && undo_wraps oddOddLines (list v) }
 {
     let c = negate_told(tell, v.c);
@@ -326,15 +286,9 @@ pub fn undo_odd_odd_told(tell: bool, v: Four) -> ToldFour
         d: v.d,
     };
     let o = undo_odd_odd_rounded_told(tell, negated, 3, 3);
-    let four = o.four;
-    ToldFour {
-        four,
+    let value = o.value;
+    Told {
+        value,
         wrapped: c.wrapped | b.wrapped | o.wrapped,
     }
-}
-
-pub fn undo_odd_odd(v: Four) -> Four
-    ensures { list result ≡ undo oddOddLines (list v) }
-{
-    undo_odd_odd_told(false, v).four
 }

@@ -5,57 +5,32 @@ ghost use Rattle.lifting.specs.Wraps.{wraps, undo_wraps};
 ghost use Rattle.figures.specs.Figures.{hadamard as hadamardLines, odd as oddLines, odd_odd as oddOddLines};
 ghost use Rattle.blocks.specs.Quads.{OnFours, on_some};
 
-use blocks::{Quads, ToldQuads};
+use blocks::{Quads, joined};
 use core_operators::transform::{
     hadamard_told, odd_odd_told, odd_told, undo_odd_odd_told, undo_odd_told,
 };
+use lifting::told::Told;
 
-pub fn quarter_stage_told(tell: bool, v: Quads) -> ToldQuads
-    ensures done { OnFours (run (hadamardLines (pos 1))) (run oddLines) (run oddLines) (run oddOddLines) v result.quads }
+pub fn quarter_stage_told(tell: bool, v: Quads) -> Told<Quads>
+    ensures done { OnFours (run (hadamardLines (pos 1))) (run oddLines) (run oddLines) (run oddOddLines) v result.value }
     ensures told { result.wrapped ≡ tell && on_some (wraps (hadamardLines (pos 1))) (wraps oddLines) (wraps oddLines) (wraps oddOddLines) v }
 {
-    let p_told = hadamard_told(tell, v.p, 1);
-    let q_told = odd_told(tell, v.q);
-    let r_told = odd_told(tell, v.r);
-    let s_told = odd_odd_told(tell, v.s);
-    let p = p_told.four;
-    let q = q_told.four;
-    let r = r_told.four;
-    let s = s_told.four;
-    let quads = Quads { p, q, r, s };
-    ToldQuads {
-        quads,
-        wrapped: p_told.wrapped | q_told.wrapped | r_told.wrapped | s_told.wrapped,
-    }
+    joined(
+        hadamard_told(tell, v.p, 1),
+        odd_told(tell, v.q),
+        odd_told(tell, v.r),
+        odd_odd_told(tell, v.s),
+    )
 }
 
-pub fn quarter_stage(v: Quads) -> Quads
-    ensures { OnFours (run (hadamardLines (pos 1))) (run oddLines) (run oddLines) (run oddOddLines) v result }
-{
-    quarter_stage_told(false, v).quads
-}
-
-pub fn undo_quarter_stage_told(tell: bool, v: Quads) -> ToldQuads
-    ensures done { OnFours (undo (hadamardLines (pos 1))) (undo oddLines) (undo oddLines) (undo oddOddLines) v result.quads }
+pub fn undo_quarter_stage_told(tell: bool, v: Quads) -> Told<Quads>
+    ensures done { OnFours (undo (hadamardLines (pos 1))) (undo oddLines) (undo oddLines) (undo oddOddLines) v result.value }
     ensures told { result.wrapped ≡ tell && on_some (undo_wraps (hadamardLines (pos 1))) (undo_wraps oddLines) (undo_wraps oddLines) (undo_wraps oddOddLines) v }
 {
-    let p_told = hadamard_told(tell, v.p, 1);
-    let q_told = undo_odd_told(tell, v.q);
-    let r_told = undo_odd_told(tell, v.r);
-    let s_told = undo_odd_odd_told(tell, v.s);
-    let p = p_told.four;
-    let q = q_told.four;
-    let r = r_told.four;
-    let s = s_told.four;
-    let quads = Quads { p, q, r, s };
-    ToldQuads {
-        quads,
-        wrapped: p_told.wrapped | q_told.wrapped | r_told.wrapped | s_told.wrapped,
-    }
-}
-
-pub fn undo_quarter_stage(v: Quads) -> Quads
-    ensures { OnFours (undo (hadamardLines (pos 1))) (undo oddLines) (undo oddLines) (undo oddOddLines) v result }
-{
-    undo_quarter_stage_told(false, v).quads
+    joined(
+        hadamard_told(tell, v.p, 1),
+        undo_odd_told(tell, v.q),
+        undo_odd_told(tell, v.r),
+        undo_odd_odd_told(tell, v.s),
+    )
 }

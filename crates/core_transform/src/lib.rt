@@ -11,12 +11,10 @@ ghost use Rattle.figures.specs.Block.{flat};
 ghost use Rattle.figures.specs.Figures.{core as coreLines, forward_reorder, inverse_reorder};
 ghost use Rattle.figures.specs.Pieces.{quarter_stage, core_mirrored_stage};
 
-use crate::core_stages::{
-    quarter_stage, quarter_stage_told, undo_quarter_stage, undo_quarter_stage_told,
-};
+use crate::core_stages::{quarter_stage_told, undo_quarter_stage_told};
 use crate::tables::{FORWARD_REORDER, INVERSE_REORDER};
-use blocks::stage::{hadamards, hadamards_told};
-use blocks::{mirrored, pick, quartered, quarters, row, split};
+use blocks::stage::hadamards_told;
+use blocks::{mirrored, pick, quartered, quarters, split};
 
 // A block reordered as Figure 4.8 begins: place i takes the coefficient at the forward table's entry i.
 fn reorder(b: [[i32; 4]; 4]) -> [[i32; 4]; 4]
@@ -27,30 +25,31 @@ fn reorder(b: [[i32; 4]; 4]) -> [[i32; 4]; 4]
     let q = pick(b, t[4], t[5], t[6], t[7]);
     let r = pick(b, t[8], t[9], t[10], t[11]);
     let s = pick(b, t[12], t[13], t[14], t[15]);
-    [row(p), row(q), row(r), row(s)]
+    [p.into(), q.into(), r.into(), s.into()]
 }
 
 // The stages take and give blocks; inside, a block is four fours.
 fn first_stage(b: [[i32; 4]; 4]) -> [[i32; 4]; 4]
     ensures { flat result ≡ run quarter_stage (flat b) }
 {
-    quartered(quarter_stage(quarters(b)))
+    quartered(quarter_stage_told(false, quarters(b)).value)
 }
 
 fn undo_first_stage(b: [[i32; 4]; 4]) -> [[i32; 4]; 4]
     ensures { flat result ≡ undo quarter_stage (flat b) }
 {
-    quartered(undo_quarter_stage(quarters(b)))
+    quartered(undo_quarter_stage_told(false, quarters(b)).value)
 }
 
 fn second_stage(b: [[i32; 4]; 4]) -> [[i32; 4]; 4]
     ensures done { flat result ≡ run core_mirrored_stage (flat b) }
     ensures undone { flat result ≡ undo core_mirrored_stage (flat b) }
 {
-    mirrored(hadamards(split(b)))
+    mirrored(hadamards_told(false, split(b)).value)
 }
 
 // The reorder undone: place i takes the coefficient at the inverse table's entry i.
+// A text of its own: one function that takes the table does not go into the loops over lanes.
 fn undo_reorder(b: [[i32; 4]; 4]) -> [[i32; 4]; 4]
     ensures { flat result ≡ get inverse_reorder (flat b) }
 {
@@ -59,7 +58,7 @@ fn undo_reorder(b: [[i32; 4]; 4]) -> [[i32; 4]; 4]
     let q = pick(b, t[4], t[5], t[6], t[7]);
     let r = pick(b, t[8], t[9], t[10], t[11]);
     let s = pick(b, t[12], t[13], t[14], t[15]);
-    [row(p), row(q), row(r), row(s)]
+    [p.into(), q.into(), r.into(), s.into()]
 }
 
 // Figure 4.8
@@ -77,11 +76,12 @@ pub fn undo_core(b: [[i32; 4]; 4]) -> [[i32; 4]; 4]
 }
 
 // Whether a reduction changes a number in Figure 4.8
+// It goes through the stages in a text of its own: one text for numbers and flag would have two callers, and not go into the loops over lanes.
 pub fn core_wraps(b: [[i32; 4]; 4]) -> bool
     ensures { result ≡ wraps coreLines (flat b) }
 {
     let first = quarter_stage_told(true, quarters(reorder(b)));
-    let last = hadamards_told(true, split(quartered(first.quads)));
+    let last = hadamards_told(true, split(quartered(first.value)));
     first.wrapped | last.wrapped
 }
 
@@ -90,6 +90,6 @@ pub fn undo_core_wraps(b: [[i32; 4]; 4]) -> bool
     ensures { result ≡ undo_wraps coreLines (flat b) }
 {
     let first = hadamards_told(true, split(b));
-    let last = undo_quarter_stage_told(true, quarters(mirrored(first.quads)));
+    let last = undo_quarter_stage_told(true, quarters(mirrored(first.value)));
     first.wrapped | last.wrapped
 }

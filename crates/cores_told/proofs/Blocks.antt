@@ -1,47 +1,24 @@
 -- Cores of a whole grid, told block by block: each law joins what the code reads of a block with the block that the grid has there.
 use Prim.Native.Nat.{ℕ, zero, suc, ◌+◌, ◌*◌, ◌/◌, ◌%◌, ◌≤◌, ◌<◌}
 use mathlib.Core.Path.{◌≡◌, sym, ◌∙◌, ap}
-use mathlib.Core.Bool.{Bool, false}
+use mathlib.Core.Bool.{false}
 use mathlib.Core.List.{List}
 use native.Mathlib.Omega.{arith}
-use native.Mathlib.Nat.{le_refl, mul-le-mul}
 use lib.IntN.{ℤ, nat_abs}
 use Rattle.lifting.specs.Program.{at}
 use Rattle.lifting.specs.Tests.{any}
 use Rattle.lifting.specs.Wraps.{wraps}
 use Rattle.lifting.proofs.Tests.{any_same}
-use Rattle.figures.specs.Figures.{core}
 use Rattle.figures.proofs.Growth.{core_grows}
 use Rattle.large_numbers.specs.Small.{AtMost}
 use Rattle.transform.specs.Level.{cores}
-use Rattle.picture.specs.declared.size.Size.{Size}
-use Rattle.picture.specs.Sizes.{Sized, macroblocks}
-use Rattle.picture.specs.Table.{table}
 use Rattle.transform.specs.Grids.{coefficients, block_order, first_grid, second_grid}
+use Rattle.cores_told.specs.Blocks.{block_wraps, held_zero}
 use Rattle.transform.proofs.Geometry.{order_low, block_of_order}
 use Rattle.transform.proofs.Grid.{at_first}
 use Rattle.picture.proofs.Table.{length-table}
 use Rattle.transform.proofs.NoWrap.{within-table}
 use Rattle.transform.proofs.Told.{cores-of-grid}
-
--- a block by its coefficient 0 and by the plane and the place of the others
-abbrev pub block_wraps : ℤ → List ℤ → ℕ → Bool
-block_wraps x rest from = wraps core (table 16 (coefficients x (λ k. at rest (from + k))))
-
--- the coefficient 0 of block t, where those of a macroblock's sixteen blocks are its DC and low-pass numbers
-abbrev pub held_zero : List ℤ → List ℤ → ℕ → ℤ
-held_zero dc low t = coefficients (at dc (t / 16)) (λ k. at low (15 * (t / 16) + k)) (t % 16)
-
--- ---- numbers of 64 bits
-
-pub order_fits : {p b : ℕ} → 0 < p → p ≤ 525 → b < 16 * (p * 413) → block_order p b < 3469200
-order_fits {p} {b} wide h l = omega (arith, order_low wide 413 b l)
-
--- a block of a picture, and the place of its numbers in the high-pass plane
-pub block_in : {size : Size} → Sized size → {b : ℕ} → b < 16 * macroblocks size → (b < 16 * (size.width.0 * 413)) × (block_order size.width.0 b < 16 * macroblocks size)
-block_in {size} s {b} h =
-    let m : size.width.0 * size.height.0 ≤ size.width.0 * 413 = mul-le-mul (le_refl _) s.most-tall in
-    (omega (arith, m), order_low s.wide size.height.0 b h)
 
 -- ---- a core of numbers of at most 2^27
 

@@ -1,52 +1,33 @@
--- The digits of a number, one step at a time: any bound on the steps that is large enough gives the same digits.
-use Prim.Native.Nat.{ℕ, zero, suc, ◌+◌, ◌^◌, ◌/◌, ◌%◌, ◌<◌, ◌≤◌}
-use mathlib.Core.Path.{◌≡◌, ap, ◌∙◌, sym}
-use mathlib.Core.Logic.{⊎_elim}
-use mathlib.Core.List.{List, [], ◌∷◌, ◌++◌}
-use native.Mathlib.Nat.{pow-suc}
-use native.Mathlib.Omega.{arith}
-use lib.ListN.{length, length-append}
+-- The digits of the definition are those that the standard library writes of a number.
+use Rattle.std.proofs.Common.{◌≡◌, ℕ, suc, ◌^◌, ◌<◌, ◌≤◌, ◌∷◌, length, ℤ, pos, negsuc, ap, sym, arith, rules}
 use borrow.Author.Tests.{lt-ltb, le-ltb}
-use Rattle.decimal.specs.Text.{digit, digits_in, digits}
-use Rattle.decimal.proofs.Order.{lt_or_le}
+use mir.Syntax.{w32}
+use mir.Val.{SFits, of_z, to_z}
+use mir.ValLaws.{to_z-of_z}
+use Rattle.std.specs.Fmt as F
+use Rattle.std.proofs.lemmas.Fmt.{AppendsLastDigit, decimal_from_appends, length-decimal-le, length-decimal-le_succ}
+use Rattle.decimal.specs.Text.{digits_in, digits, decimal}
 
-few : (k n : ℕ) → n < 10 → digits_in (suc k) n ≡ digit n ∷ []
+appends : AppendsLastDigit digits_in
 unfolding digits_in
-few k n h = rw (lt-ltb n 10 h, digits_in)
+appends = record {
+  one = λ k n h. rw (lt-ltb n 10 h, digits_in);
+  more = λ k n h. rw (le-ltb n 10 h, digits_in);
+}
 
-more : (k n : ℕ) → 10 ≤ n → digits_in (suc k) n ≡ digits_in k (n / 10) ++ (digit (n % 10) ∷ [])
-unfolding digits_in
-more k n h = rw (le-ltb n 10 h, digits_in)
-
-enough : (k m n : ℕ) → n < k → n < m → digits_in k n ≡ digits_in m n
-enough zero m n h j = absurd (omega arith)
-enough (suc k) zero n h j = absurd (omega arith)
-enough (suc k) (suc m) n h j =
-    ⊎_elim (λ q. few k n q ∙ sym (few m n q))
-    (λ q. more k n q ∙ ap (λ (l : List ℕ). l ++ (digit (n % 10) ∷ [])) (enough k m (n / 10) (omega arith) (omega arith)) ∙ sym (more m n q))
-    (lt_or_le n 10)
-
--- a number below ten is its one digit
-pub digits-one : (n : ℕ) → n < 10 → digits n ≡ digit n ∷ []
+pub digits_are : (n : ℕ) → n < 2 ^ 64 → F.decimal n ≡ digits n
 unfolding digits
-digits-one n h = few n n h
+digits_are n h = sym (decimal_from_appends digits_in appends (suc n) n h (search (rules, length-decimal-le_succ)))
 
--- any other has its last digit behind those of its tenth
-pub digits_more : (n : ℕ) → 10 ≤ n → digits n ≡ digits (n / 10) ++ (digit (n % 10) ∷ [])
-unfolding digits
-digits_more n h =
-    more n n h ∙ ap (λ (l : List ℕ). l ++ (digit (n % 10) ∷ [])) (enough n (suc (n / 10)) (n / 10) (omega arith) (omega arith))
+decimal-is : (x : ℤ) → SFits w32 x → F.signed_decimal x ≡ decimal x
+unfolding decimal
+decimal-is (pos n) h = let f = h.sfits in digits_are n (omega arith)
+decimal-is (negsuc n) h = let f = h.sfits in ap (λ ds. 45 ∷ ds) (digits_are (suc n) (omega arith))
 
-pub length-one : (n : ℕ) → n < 10 → length (digits n) ≡ 1
-length-one n h = ap length (digits-one n h)
+-- a number of 32 bits has at most ten digits
+pub digits-at-most : (n : ℕ) → n < 2 ^ 32 → length (digits n) ≤ 10
+digits-at-most n h = rw (← digits_are n (omega arith)) (length-decimal-le 10 n (omega arith) (omega arith) (omega arith))
 
-pub length_more : (n : ℕ) → 10 ≤ n → length (digits n) ≡ length (digits (n / 10)) + 1
-length_more n h = ap length (digits_more n h) ∙ simp length-append
-
--- below 10^k there are at most k of them
-pub digits-at-most : (k n : ℕ) → n < 10 ^ suc k → length (digits n) ≤ suc k
-digits-at-most zero n h = omega (arith, length-one n (omega arith))
-digits-at-most (suc k) n h =
-    ⊎_elim (λ q. omega (arith, length-one n q))
-    (λ q. omega (arith, length_more n q, digits-at-most k (n / 10) (omega (arith, pow-suc 10 (suc k)))))
-    (lt_or_le n 10)
+-- the text of a number, which a call of any number's text gives by its bits
+pub decimal_text : (x : ℤ) → SFits w32 x → F.signed_decimal (to_z w32 (of_z w32 x)) ≡ decimal x
+decimal_text x h = rw (to_z-of_z w32 x h) (decimal-is x h)

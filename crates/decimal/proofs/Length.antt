@@ -1,19 +1,13 @@
 -- How much room is always enough: a number of 32 bits has at most ten digits, so twelve bytes for each number hold a row.
-use Prim.Native.Nat.{ℕ, suc, ◌*◌, ◌<◌, ◌≤◌}
-use mathlib.Core.Path.{refl}
-use mathlib.Core.List.{List, [], ◌∷◌}
-use native.Mathlib.Omega.{arith}
-use lib.IntN.{ℤ, pos, negsuc}
-use lib.ListN.{length, get_or, length-append}
+use Rattle.std.proofs.Common.{ℕ, suc, ◌*◌, ◌<◌, ◌≤◌, List, [], ◌∷◌, length, get_or, ℤ, pos, negsuc, arith, length-append}
 use lib.Signed.{mag}
 use Rattle.decimal.specs.Text.{decimal, row}
 use Rattle.decimal.proofs.Digits.{digits-at-most}
-use Rattle.decimal.proofs.Sign.{length-below}
 
-pub decimal-at-most : (x : ℤ) → mag x < 2147483648 → length (decimal x) ≤ 11
+decimal-at-most : (x : ℤ) → mag x < 2147483648 → length (decimal x) ≤ 11
 unfolding decimal
-decimal-at-most (pos n) h = omega (arith, digits-at-most 9 n (omega arith))
-decimal-at-most (negsuc n) h = omega (arith, length-below (negsuc n) refl, digits-at-most 9 (suc n) (omega arith))
+decimal-at-most (pos n) h = omega (arith, digits-at-most n (omega arith))
+decimal-at-most (negsuc n) h = simp length-append (omega (arith, digits-at-most (suc n) (omega arith)))
 
 -- the numbers fit as those of a slice do
 pub row-at-most : (x : ℤ) (xs : List ℤ) → ((i : ℕ) → mag (get_or (x ∷ xs) i (pos 0)) < 2147483648) → length (row (x ∷ xs)) ≤ 12 * length (x ∷ xs)

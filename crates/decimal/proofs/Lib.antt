@@ -1,9 +1,7 @@
-pub mod Order
 pub mod Digits
-pub mod Sign
 pub mod Overlay
 pub mod Rows
-pub mod Progress
 pub mod Room
+pub mod Progress
 pub mod Length
 pub mod Values

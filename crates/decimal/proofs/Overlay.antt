@@ -1,17 +1,15 @@
--- A text laid over a part of lent bytes: one byte is a store, and two texts one behind the other are one.
-use Prim.Native.Nat.{ℕ, ◌+◌, ◌<◌, ◌≤◌}
-use mathlib.Core.Path.{◌≡◌, ap, ◌∙◌}
-use mathlib.Core.List.{List, [], ◌∷◌, ◌++◌, append_assoc}
-use native.Mathlib.Omega.{arith}
-use native.Mathlib.Numerals.{add-one}
-use native.Mathlib.Nat.{add_assoc}
-use lib.ListN.{length, get_or, take, drop, set, length-append, length-take, length-drop}
-use lib.Seq.{set_split, append_snoc, take_at, drop_at, drop-drop, length-take-le, paste, paste-suc, take-length}
+-- A text laid over a part of lent bytes, and two texts one behind the other that are one.
+use Rattle.std.proofs.Common.{◌≡◌, ℕ, ◌+◌, ◌-◌, ◌≤◌, List, ◌++◌, length, take, drop, ap, ◌∙◌, append_assoc, add_assoc, arith, length-append, length-take, length-drop}
+use lib.Seq.{take_at, drop_at, drop-drop, length-take-le}
+use borrow.Rule.Slice.PartMut.{put_mid}
 use Rattle.decimal.specs.Text.{over}
 
-pub over-set : (b : List ℕ) (at v : ℕ) → at < length b → set b at v ≡ over b at (v ∷ [])
+-- a part of the bytes that is replaced by a text of its length
+pub over_part : (b t : List ℕ) (at : ℕ) → at + length t ≤ length b → put_mid at (at + length t - at) b t ≡ over b at t
 unfolding over
-over-set b at v h = rw (add-one at, append_snoc) (set_split b at v h)
+over_part b t at h =
+    let e : at + length t - at ≡ length t = omega arith in
+    rw (e, drop-drop (length t) at b, append_assoc (take at b) t)
 
 pub length_over : (b : List ℕ) (at : ℕ) (t : List ℕ) → at + length t ≤ length b → length (over b at t) ≡ length b
 unfolding over
@@ -36,16 +34,3 @@ over-over b at s t h =
 -- a text behind the text that is there
 pub then_text : (b o : List ℕ) {p : List ℕ} (at : ℕ) {e : ℕ} (s t : List ℕ) → at ≤ length b → o ≡ over b at s → e ≡ at + length s → p ≡ over o e t → p ≡ over b at (s ++ t)
 then_text b o at s t h q r w = w ∙ rw (q, r) (over-over b at s t h)
-
--- a byte behind the text that is there
-pub then_byte : (b o : List ℕ) (at e v : ℕ) (s : List ℕ) → at + length s < length b → o ≡ over b at s → e ≡ at + length s → set o e v ≡ over b at (s ++ (v ∷ []))
-then_byte b o at e v s h q r =
-    then_text b o at s (v ∷ []) (omega arith) q r (over-set o e v (rw (q, r, length_over b at s (omega arith)) h))
-
--- a copy, byte by byte
-pub copy_more : (b d : List ℕ) (at : ℕ) (s : List ℕ) (i : ℕ) → at + length s ≤ length b → i < length s → d ≡ paste b at s i → set d (at + i) (get_or s i 0) ≡ paste b at s (i + 1)
-copy_more b d at s i h j q = rw (q, add-one i) (paste-suc b at s i 0 (omega arith) j)
-
-pub copied : (b : List ℕ) (at : ℕ) (s : List ℕ) → paste b at s (length s) ≡ over b at s
-unfolding over
-copied b at s = rw take-length

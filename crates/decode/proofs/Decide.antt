@@ -1,41 +1,42 @@
 -- Which checks decide the program's number: those that pass, before or after the others, change nothing.
-use Prim.Native.Nat.{ℕ, ◌*◌, ◌<◌, ◌≤◌}
-use mathlib.Core.Path.{◌≡◌, refl, sym, ap, ◌∙◌}
-use mathlib.Core.List.{List, ◌++◌}
-use lib.IntN.{ℤ}
-use lib.ListN.{length}
-use borrow.Author.Tests.{ltb-false, lt-ltb, le-ltb}
-use Rattle.picture.specs.Refusals.{samples_length, too_many_macroblocks}
+use Rattle.std.proofs.Common.{◌≡◌, ℕ, ◌*◌, ◌≤◌, List, ◌++◌, length, sym, ◌∙◌, refl, ℤ}
+use borrow.Author.Tests.{ltb-false}
+use Rattle.picture.specs.declared.refusals.Refusal.{Refusal}
+use Rattle.picture.specs.declared.size.Size.{Size}
+use Rattle.picture.specs.Refusals.{number_of_refusal, samples_length, too_many_macroblocks}
 use Rattle.picture.specs.Numbers.{first_of, settled, shape_checks, plane_checks, sample_check, inverse_number}
 use Rattle.picture.specs.Planes.{Planes, Lengths}
 use Rattle.transform.specs.Transform.{inverse}
 use Rattle.picture.proofs.NumberLaws.{passed_first, both_pass, last_passed, settled-done}
-use Rattle.plane_file.specs.declared.header.Header.{Header}
-use Rattle.plane_file.specs.Header.{mode_in, size_in, header_of, answer}
-use Rattle.plane_file.specs.Numbers.{start_checks, total_check, count_in, header_checks, header_number, load_number}
 use Rattle.picture.proofs.CheckLaws.{passes, shape_passes, fits-planes, is-fit}
-use Rattle.plane_file.proofs.Checks.{header-fits, number_of, read_done}
+use Rattle.plane_file.specs.declared.header.Start.{Start}
+use Rattle.plane_file.specs.Header.{mode_in, size_in, words_of, start_of}
+use Rattle.plane_file.specs.Words.{numbers_at}
+use Rattle.plane_file.specs.Layout.{planes_in}
+use Rattle.plane_file.specs.Calls.{loaded}
+use Rattle.plane_file.specs.Numbers.{start_checks, total_check, count_in, header_checks, header_number, load_number}
+use Rattle.picture.proofs.Table.{length-table}
+use Rattle.plane_file.proofs.Checks.{header-fits, still_refused, refusal_some}
 use Rattle.decode.specs.Program.{count_check, program_number, planes_of, samples_of}
 
 -- ---- the count of macroblocks
 
-pub count_off : (n m : ℕ) → n ≡ m → 16 < n → too_many_macroblocks ≡ first_of (count_check m)
-count_off n m e h = rw (← e) (sym (simp (lt-ltb 16 n h)))
+-- a file that the words or the count refuse
+pub small_refuses : (bytes : List ℕ) (refusal : Refusal) → number_of_refusal refusal ≡ first_of (start_checks bytes ++ count_check (count_in bytes)) → number_of_refusal refusal ≡ program_number bytes
+unfolding program_number
+small_refuses bytes = still_refused (start_checks bytes ++ count_check (count_in bytes)) (total_check (count_in bytes) (length bytes))
 
-pub count_on : (n m : ℕ) → n ≡ m → n ≤ 16 → first_of (count_check m) ≡ 0
-count_on n m e h = rw (← e) (simp (le-ltb 16 n h))
-
-module _ (bytes : List ℕ) (e : first_of (start_checks bytes ++ count_check (count_in bytes)) ≡ 0) where
+module _ (bytes : List ℕ) (e : 0 ≡ first_of (start_checks bytes ++ count_check (count_in bytes))) where
   pub few : count_in bytes ≤ 16
-  few = ltb-false 16 (count_in bytes) (passes too_many_macroblocks _ tt (both_pass (start_checks bytes) (count_check (count_in bytes)) e).1)
+  few = ltb-false 16 (count_in bytes) (passes too_many_macroblocks _ tt (both_pass (start_checks bytes) (count_check (count_in bytes)) (sym e)).1)
 
-  -- then it is the header's number
+  -- one that they let through has the header's number
   pub program_number_lem : header_number bytes ≡ program_number bytes
   unfolding program_number header_number
   program_number_lem =
       let total = total_check (count_in bytes) (length bytes) in
-      passed_first (start_checks bytes) total refl (both_pass (start_checks bytes) (count_check (count_in bytes)) e).0
-      ∙ sym (passed_first (start_checks bytes ++ count_check (count_in bytes)) total refl e)
+      passed_first (start_checks bytes) total refl (both_pass (start_checks bytes) (count_check (count_in bytes)) (sym e)).0
+      ∙ sym (passed_first (start_checks bytes ++ count_check (count_in bytes)) total refl (sym e))
 
 -- ---- loading into planes of the file's lengths
 
@@ -58,22 +59,27 @@ inverse-number bytes s samples e l h =
     ∙ passed_first lengths last refl (fits-planes (count_in bytes) s l)
     ∙ is-fit samples_length (length samples) (256 * count_in bytes) h
 
-module _ (bytes : List ℕ) (r : Header) (e : r ≡ answer (header_number bytes) bytes) (z : r.number ≡ 0) where
-  done : header_number bytes ≡ 0
-  unfolding header_number
-  done = number_of bytes (header_checks bytes) r e ∙ z
+plane_lengths : (bytes : List ℕ) (n : ℕ) → Lengths n (planes_in bytes n)
+unfolding numbers_at
+plane_lengths bytes n = record { dc = length-table _ _; low = length-table _ _; high = length-table _ _ }
 
-  said : r ≡ header_of 0 (mode_in bytes) (size_in bytes)
-  unfolding header_number
-  said = read_done bytes (header_checks bytes) r e z
+-- a file that was loaded, whose mode and size are given to the inverse
+module _ (bytes : List ℕ) {start : Start} (said : start ≡ start_of (words_of bytes)) {now : Size} (same : now ≡ start.size)
+    (was : Planes) (l : Lengths (count_in bytes) was) (passed : 0 ≡ load_number bytes was) {s : Planes} (read : s ≡ loaded bytes was)
+    (v : List ℤ) (h : length v ≡ 256 * count_in bytes) where
+  done : 0 ≡ header_number bytes
+  done = passed ∙ load-number bytes was l
 
-  pub samples_are : (s was : Planes) → s ≡ settled (header_number bytes) (planes_of bytes) was → Lengths (count_in bytes) s
-      → (v : List ℤ) → length v ≡ 256 * count_in bytes
-      → {k : ℕ} {u : List ℤ} → k ≡ inverse_number r.mode r.size s v → u ≡ settled k (inverse r.mode r.size s) v
-      → u ≡ settled (header_number bytes) (samples_of bytes) v
-  samples_are s was p l v h {k} q w =
-      w
-      ∙ settled-done k (inverse r.mode r.size s) v (q ∙ ap (λ (a : Header). inverse_number a.mode a.size s v) said ∙ inverse-number bytes s v done l h)
-      ∙ ap (λ (a : Header). inverse a.mode a.size s) said
-      ∙ ap (inverse (mode_in bytes) (size_in bytes)) (p ∙ settled-done (header_number bytes) (planes_of bytes) was done)
-      ∙ sym (settled-done (header_number bytes) (samples_of bytes) v done)
+  planes-are : s ≡ planes_of bytes
+  planes-are = read ∙ settled-done (load_number bytes was) (planes_of bytes) was (sym passed)
+
+  pub inverse_passes : inverse_number start.mode now s v ≡ 0
+  inverse_passes = rw (same, said, planes-are) (inverse-number bytes (planes_of bytes) v (sym done) (plane_lengths bytes (count_in bytes)) h)
+
+  pub samples_are : {k : ℕ} {u : List ℤ} → k ≡ inverse_number start.mode now s v → u ≡ settled k (inverse start.mode now s) v → u ≡ settled (header_number bytes) (samples_of bytes) v
+  samples_are q w =
+      w ∙ settled-done _ (inverse start.mode now s) v (q ∙ inverse_passes)
+      ∙ rw (same, said, planes-are) (sym (settled-done (header_number bytes) (samples_of bytes) v (sym done)))
+
+  pub refused_not : (refusal : Refusal) → number_of_refusal refusal ≡ inverse_number start.mode now s v → ⊥
+  refused_not refusal e = refusal_some refusal (e ∙ inverse_passes)

@@ -1,14 +1,11 @@
 -- Memory of which the front was lent: what the call left there, and behind it what was there.
-use Prim.Native.Nat.{ℕ, zero, suc}
-use mathlib.Core.Path.{◌≡◌, refl, ap}
-use mathlib.Core.List.{List, ◌++◌}
-use lib.IntN.{ℤ}
-use lib.ListN.{take, drop, take-append-drop}
+use Rattle.std.proofs.Common.{◌≡◌, ℕ, zero, suc, List, ◌++◌, take, drop, refl, ap, ℤ}
+use lib.ListN.{take-append-drop}
+use Rattle.picture.specs.declared.refusals.Refusal.{Refusal}
+use Rattle.picture.specs.Refusals.{number_of_refusal}
 use Rattle.picture.specs.Numbers.{settled}
 use Rattle.picture.specs.Planes.{Planes}
-use Rattle.plane_file.specs.declared.header.Header.{Header}
-use Rattle.plane_file.specs.Header.{answer}
-use Rattle.plane_file.proofs.Checks.{unchanged}
+use Rattle.plane_file.proofs.Checks.{kept}
 use Rattle.decode.specs.Program.{program_number, left}
 
 front : (k n : ℕ) (x was : List ℤ) → settled k x (take n was) ++ drop n was ≡ settled k (x ++ drop n was) was
@@ -25,5 +22,5 @@ plane_of f zero x y e = ap f e
 plane_of f (suc k) x y e = ap f e
 
 -- nothing was lent
-pub left_whole : (bytes : List ℕ) (r : Header) → r ≡ answer (program_number bytes) bytes → (r.number ≡ 0 → ⊥) → (n : ℕ) (x was : List ℤ) → was ≡ left bytes n x was
-left_whole bytes r e h n x was = unchanged bytes (program_number bytes) r (x ++ drop n was) was e h
+pub left_whole : (bytes : List ℕ) (refusal : Refusal) → number_of_refusal refusal ≡ program_number bytes → (n : ℕ) (x was : List ℤ) → was ≡ left bytes n x was
+left_whole bytes refusal e n x was = kept refusal (x ++ drop n was) was e

@@ -1,7 +1,6 @@
 -- Rows as lines of text: a row laid over the rest of the bytes, and rows one behind the other, which grow by one row at a time.
 use Prim.Native.Nat.{ℕ, zero, suc, ◌+◌, ◌-◌, ◌*◌, ◌<◌, ◌≤◌}
 use mathlib.Core.Path.{◌≡◌, sym, ap, ◌∙◌}
-use mathlib.Core.Logic.{⊎_elim}
 use mathlib.Core.List.{List, [], ◌∷◌, ◌++◌, append-nil, append_assoc}
 use native.Mathlib.Omega.{arith}
 use native.Mathlib.Numerals.{add-one}
@@ -12,7 +11,7 @@ use lib.Seq.{get_or-take, get_or-drop, drop-drop, take_all, length-take-le}
 use lib.Signed.{mag}
 use Rattle.lifting.specs.Row.{Row}
 use Rattle.decimal.specs.Text.{row, over, written, count}
-use Rattle.decimal.proofs.Order.{lt_or_le}
+use native.Mathlib.Decide.{dec_le}
 use Rattle.decimal.proofs.Length.{row-at-most}
 use Rattle.decimal.proofs.Room.{written-fits, count_fits}
 use Rattle.decimal.proofs.Overlay.{then_text}
@@ -22,10 +21,10 @@ use Rattle.decode.specs.Shown.{rows}
 
 part_fits : {n : ℕ} (xs : List ℤ) → Row n xs → (from w i : ℕ) → mag (get_or (take w (drop from xs)) i (pos 0)) < 2147483648
 part_fits xs r from w i =
-    ⊎_elim
-    (λ h. rw (get_or-take w (drop from xs) i (pos 0) h, get_or-drop from xs i (pos 0)) (r.fit (from + i)).sfits)
-    (λ h. rw (get_or-eq_default (take w (drop from xs)) (pos 0) {n = i} (omega (arith, length-take w (drop from xs)))) (omega arith))
-    (lt_or_le i w)
+    elim (dec_le w i) [
+      | yes h ↦ rw (get_or-eq_default (take w (drop from xs)) (pos 0) {n = i} (omega (arith, length-take w (drop from xs)))) (omega arith)
+      | no h ↦ rw (get_or-take w (drop from xs) i (pos 0) (omega (arith, h)), get_or-drop from xs i (pos 0)) (r.fit (from + i)).sfits
+    ]
 
 at_most : (xs : List ℤ) → 0 < length xs → ((i : ℕ) → mag (get_or xs i (pos 0)) < 2147483648) → length (row xs) ≤ 12 * length xs
 at_most [] h f = absurd (omega (arith, h))
@@ -70,17 +69,9 @@ more (suc y) w xs =
 rows_more : (y w : ℕ) (xs : List ℤ) → rows (y + 1) w xs ≡ rows y w xs ++ row (take w (drop (y * w) xs))
 rows_more y w xs = rw (add-one y) (more y w xs)
 
-module _ (xs : List ℤ) (b o : List ℕ) (w y : ℕ) {at from : ℕ} (place : from ≡ y * w) (size : at ≡ length (rows y w xs)) where
-  pub next_size : {k : ℕ} → k ≡ length (row (take w (drop from xs))) → at + k ≡ length (rows (y + 1) w xs)
-  next_size e = rw (rows_more y w xs, length-append, size, e, place)
+module _ (xs : List ℤ) (b o : List ℕ) (w y : ℕ) {at : ℕ} (size : at ≡ length (rows y w xs)) where
+  pub next_size : {k : ℕ} → k ≡ length (row (take w (drop (y * w) xs))) → at + k ≡ length (rows (y + 1) w xs)
+  next_size e = rw (rows_more y w xs, length-append, size, e)
 
-  pub next_laid : {p : List ℕ} → o ≡ over b 0 (rows y w xs) → p ≡ over o at (row (take w (drop from xs))) → p ≡ over b 0 (rows (y + 1) w xs)
-  next_laid laid e =
-      rw (rows_more y w xs, ← place) (then_text b o 0 (rows y w xs) (row (take w (drop from xs))) (omega arith) laid (omega (arith, size)) e)
-
--- all rows
-pub last_row : (xs : List ℤ) (b : List ℕ) (w : ℕ) {y h at : ℕ} {o : List ℕ} → y ≤ h → h ≤ y → at ≡ length (rows y w xs) → at ≤ 12 * (y * w) → o ≡ over b 0 (rows y w xs)
-    → ((at ≡ length (rows h w xs)) × (at ≤ 12 * (h * w))) × (o ≡ over b 0 (rows h w xs))
-last_row xs b w {y} {h} a c size bound laid =
-    let e : h ≡ y = omega arith in
-    rw e ((size, bound), laid)
+  pub next_laid : {p : List ℕ} → o ≡ over b 0 (rows y w xs) → p ≡ over o at (row (take w (drop (y * w) xs))) → p ≡ over b 0 (rows (y + 1) w xs)
+  next_laid laid e = rw (rows_more y w xs) (then_text b o 0 (rows y w xs) (row (take w (drop (y * w) xs))) (omega arith) laid (omega (arith, size)) e)

@@ -26,12 +26,8 @@ fn write_rows(numbers: &[i32], w: usize, h: usize, out: &mut [u8]) -> usize
     ensures out_after { out.new ≡ over out.old 0 (rows h w numbers.now) }
 {
     let mut at = 0;
-    let mut from = 0;
-    let mut y = 0;
-    while y < h {
-        at += write_line(numbers, from, w, out, at);
-        from += w;
-        y += 1;
+    for y in 0..h {
+        at += write_line(numbers, y * w, w, out, at);
     }
     at
 }
@@ -43,18 +39,18 @@ pub fn show(bytes: &[u8], out: &mut [u8]) -> usize
     ensures value { (result ≡ length (shown bytes.now)) × (result ≤ 49152) }
     ensures out_after { out.new ≡ over out.old 0 (shown bytes.now) }
 {
-    let mut dc = [0i32; 16];
-    let mut low = [0i32; 240];
-    let mut high = [0i32; 3840];
-    let mut samples = [0i32; 4096];
-    let header = decode(bytes, &mut dc, &mut low, &mut high, &mut samples);
-    if header.number != 0 {
-        return write_refused(header.number, out);
+    let mut dc = [0; 16];
+    let mut low = [0; 240];
+    let mut high = [0; 3840];
+    let mut samples = [0; 4096];
+    match decode(bytes, &mut dc, &mut low, &mut high, &mut samples) {
+        Err(refusal) => write_refused(refusal.into(), out),
+        Ok(start) => {
+            let side = start.size.samples();
+            let w = side.width.0 as usize;
+            let h = side.height.0 as usize;
+            let all = h * w;
+            write_rows(&samples[..all], w, h, out)
+        }
     }
-    let size = header.size;
-    let side = size.samples();
-    let w = side.width.0 as usize;
-    let h = side.height.0 as usize;
-    let all = h * w;
-    write_rows(&samples[..all], w, h, out)
 }

@@ -1,2 +1,4 @@
 pub mod Differences
+pub mod Walk
+pub mod Pieces
 pub mod Sanity

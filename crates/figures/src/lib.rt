@@ -1,5 +1,8 @@
-// What operators on two and on four numbers answer. The figures themselves are the definitions in specs/.
+// Two and four numbers, which operators take and answer. The figures themselves are the definitions in specs/.
 #![tactic(auto)]
+
+ghost use Rattle.std.specs.Prelude.{◌≡◌};
+ghost use Rattle.figures.specs.Block.{list};
 
 #[derive(Clone, Copy)]
 pub struct Pair {
@@ -15,15 +18,19 @@ pub struct Four {
     pub d: i32,
 }
 
-// The same, with whether a reduction changed a number
-#[derive(Clone, Copy)]
-pub struct ToldPair {
-    pub pair: Pair,
-    pub wrapped: bool,
+impl From<Four> for [i32; 4] {
+    ghost from_gives = { λ f v. v ≡ list f };
+
+    fn from(f: Four) -> [i32; 4] {
+        [f.a, f.b, f.c, f.d]
+    }
 }
 
-#[derive(Clone, Copy)]
-pub struct ToldFour {
-    pub four: Four,
-    pub wrapped: bool,
+impl From<[i32; 4]> for Four {
+    ghost from_gives = { λ v f. list f ≡ v };
+
+    fn from(v: [i32; 4]) -> Four {
+        let [a, b, c, d] = v;
+        Four { a, b, c, d }
+    }
 }

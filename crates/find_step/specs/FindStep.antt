@@ -1,8 +1,11 @@
 -- The call find_step: which index answers, by which of them pass, and the call's number (02, c).
-use Rattle.std.specs.Prelude.{ℕ, zero, suc, ◌≤◌, ◌<◌, ◌≡◌, Bool, true, false, List, ◌++◌, ℤ}
+use Rattle.std.specs.Prelude.{ℕ, zero, suc, Result, Ok, Err, ◌≤◌, ◌<◌, ◌≡◌, Bool, true, false, List, ◌++◌, ℤ}
 use Rattle.picture.specs.declared.size.Size.{Size}
 use Rattle.picture.specs.Sizes.{macroblocks}
 use Rattle.picture.specs.Planes.{Planes}
+use Rattle.picture.specs.declared.refusals.Refusal.{Refusal}
+use Rattle.picture.specs.Refusals.{number_of}
+use Rattle.find_step.specs.declared.found.Found.{Found}
 use Rattle.picture.specs.Numbers.{first_of, shape_checks, plane_checks, sample_check}
 
 -- ---- the answer
@@ -20,6 +23,16 @@ Answer test (suc k) = (2 ≤ suc k) × (suc k ≤ 255) × (test (suc k) ≡ true
 abbrev pub IndexBeside : ℕ → (ℕ → Bool) → ℕ → Type 0
 IndexBeside zero test index = Answer test index
 IndexBeside (suc k) test index = index ≡ 0
+
+-- the index of a call: 0 where it is refused
+abbrev pub index_in : Result ℕ Refusal → ℕ
+index_in (Ok index) = index
+index_in (Err refusal) = 0
+
+-- what C is given of a call
+pub record GivesFound (answer : Result ℕ Refusal) (found : Found) : Type 0 where
+  pub number : found.number ≡ number_of answer
+  pub index : found.index ≡ index_in answer
 
 -- ---- the number
 

@@ -1,19 +1,14 @@
 -- How often a level uses an operator: each of its stages uses one program at places that do not matter for the count, so uses are counts of places times the uses in that program.
-use Prim.Native.Nat.{ℕ, ◌+◌, ◌-◌, ◌*◌, ◌≤◌}
-use mathlib.Core.Path.{◌≡◌, refl, sym, ◌∙◌, ap}
+use Prim.Native.Nat.{ℕ, ◌+◌, ◌-◌, ◌*◌}
+use mathlib.Core.Path.{◌≡◌, refl}
 use mathlib.Core.Bool.{Bool, true, false, cond}
 use native.Mathlib.Omega.{arith}
-use native.Mathlib.Nat.{mul-le-mul, le_trans, lt_of_le_of_lt}
-use lib.Dec.{lit<}
-use mir.Val.{Fits}
-use mir.Syntax.{w32}
 use Rattle.lifting.specs.Program.{Program, end, Operator, Core, SquareFilter, FourFilter, ◌then◌}
 use Rattle.lifting.specs.OperatorUses.{uses}
 use Rattle.lifting.proofs.OperatorUses.{uses_then, uses-each}
 use Rattle.figures.specs.Figures.{core, core_stages, hadamard, odd, odd_odd, rotation, scale, post_hadamard, post_odd_odd, four_filter, square_filter}
 use Rattle.forecast.specs.declared.LevelUses.{LevelUses}
-use Rattle.forecast.specs.Claims.{level_counts, LevelClaim}
-use Rattle.forecast.specs.Parts.{uses_in, Squares, Few}
+use Rattle.forecast.specs.Claims.{LevelClaim}
 use Rattle.transform.specs.Level.{core_at, square_filter_at, four_filter_at, corner_filter_at, cores, square_filters, row_filters, column_filters, along_edges, corner_filters, filters, level}
 
 -- ---- any operator
@@ -86,19 +81,3 @@ pub level_claim : LevelClaim
 unfolding uses core_at square_filter_at four_filter_at core core_stages hadamard odd odd_odd rotation scale post_hadamard post_odd_odd four_filter square_filter
 level_claim true p q = same-uses (omega (arith, level-use Core p q true)) (omega (arith, level-use SquareFilter p q true)) (omega (arith, level-use FourFilter p q true))
 level_claim false p q = same-uses (omega (arith, level-use Core p q false)) (omega (arith, level-use SquareFilter p q false)) (omega (arith, level-use FourFilter p q false))
-
--- ---- how many they are at most
-
-few : {p q a b : ℕ} → Squares p q → a ≤ p → b ≤ q → a * b ≤ 3469200
-few s h k = le_trans (mul-le-mul h k) (mul-le-mul s.most-wide s.most-tall)
-
-pub few_fit : {p q a b : ℕ} → Squares p q → a ≤ p → b ≤ q → Fits w32 (a * b)
-few_fit s h k = record { fits = lt_of_le_of_lt (few s h k) (lit< tt) }
-
-few_counts : (filtered : Bool) (p q : ℕ) → Squares p q → Few (level_counts filtered p q)
-few_counts true p q s = record { cores = few s (omega arith) (omega arith); square-filters = few s (omega arith) (omega arith); four-filters = omega arith }
-few_counts false p q s = record { cores = few s (omega arith) (omega arith); square-filters = omega arith; four-filters = omega arith }
-
--- the counts by what a test of `filtered` found
-pub found_counts : (filtered b : Bool) (p q : ℕ) → filtered ≡ b → Squares p q → (level_counts b p q ≡ uses_in (level filtered p q)) × Few (level_counts b p q)
-found_counts filtered b p q e s = (sym (level_claim filtered p q ∙ ap (λ (t : Bool). level_counts t p q) e), few_counts b p q s)

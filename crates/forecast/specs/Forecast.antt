@@ -1,9 +1,11 @@
 -- The forecast of a picture: how often its defined inverse uses each operator of a level, and its bytes (02, b).
-use Rattle.std.specs.Prelude.{ℕ, ◌+◌, ◌*◌}
+use Rattle.std.specs.Prelude.{ℕ, ◌+◌, ◌*◌, ◌≡◌}
 use Rattle.lifting.specs.Program.{Operator, Core, SquareFilter, FourFilter}
 use Rattle.lifting.specs.OperatorUses.{uses}
 use Rattle.picture.specs.declared.mode.Mode.{Mode}
 use Rattle.picture.specs.declared.size.Size.{Size}
+use Rattle.picture.specs.declared.refusals.Refusal.{Refusal}
+use Rattle.picture.specs.Refusals.{number_of_refusal}
 use Rattle.picture.specs.Sizes.{macroblocks}
 use Rattle.picture.specs.Modes.{mode_of}
 use Rattle.transform.specs.Transform.{level_one, level_two}
@@ -33,6 +35,10 @@ work_by mode size =
 -- refused: every figure is zero
 abbrev pub no_work : ℕ → Work
 no_work number = record { number = number; cores = 0; square_filters = 0; four_filters = 0; plane_bytes = 0; sample_bytes = 0 }
+
+-- what a refusal is turned into
+abbrev pub GivesNoWork : Refusal → Work → Type 0
+GivesNoWork refusal work = work ≡ no_work (number_of_refusal refusal)
 
 -- 1, 2, 3
 unfoldable pub forecast_number : ℕ → Size → ℕ

@@ -2,13 +2,12 @@
 #![tactic(auto)]
 
 ghost use Rattle.std.specs.Prelude.{◌≡◌};
-ghost use Rattle.picture.specs.Sizes.{Sized};
 ghost use Rattle.transform.specs.Level.{level};
-ghost use Rattle.forecast.specs.Forecast.{work_by, forecast_answer};
+ghost use Rattle.forecast.specs.Forecast.{work_by, GivesNoWork, forecast_answer};
 ghost use Rattle.forecast.specs.Parts.{uses_in, Squares, Few};
 
-use picture::checks::{Checked, check_shape};
-use picture::mode::Mode;
+use picture::frame::Frame;
+use picture::refusals::Refusal;
 use picture::size::Size;
 
 // The number, and, where that is 0, how often the inverse uses each operator of a level, and the bytes of the planes and of the samples.
@@ -24,6 +23,22 @@ pub struct Work {
     pub sample_bytes: u32,
 }
 
+// A refused forecast: its number, and every figure zero.
+impl From<Refusal> for Work {
+    ghost from_gives = { GivesNoWork };
+
+    fn from(refusal: Refusal) -> Work {
+        Work {
+            number: refusal.into(),
+            cores: 0,
+            square_filters: 0,
+            four_filters: 0,
+            plane_bytes: 0,
+            sample_bytes: 0,
+        }
+    }
+}
+
 // How often a level uses each of its operators.
 #[derive(Clone, Copy)]
 struct LevelUses {
@@ -35,7 +50,8 @@ struct LevelUses {
 // A level of p squares across and q down; a square is a macroblock at level one and a block at level two.
 fn level_uses(filtered: bool, p: u32, q: u32) -> LevelUses
     requires { Squares p q }
-    ensures { (result ≡ uses_in (level filtered p q)) × Few result }
+    ensures value { result ≡ uses_in (level filtered p q) }
+    ensures few { Few result }
 {
     let cores = p * q;
     if filtered {
@@ -53,14 +69,15 @@ fn level_uses(filtered: bool, p: u32, q: u32) -> LevelUses
 }
 
 // Both levels together, and the bytes.
-fn work_of(mode: Mode, size: Size) -> Work
-    requires { Sized size }
-    ensures { result ≡ work_by mode size }
+fn work_of(frame: Frame) -> Work
+    ensures { result ≡ work_by frame.mode frame.size }
 {
+    let mode = frame.mode;
+    let size = frame.size.get();
+    let blocks = frame.size.blocks();
     let one = level_uses(mode.first, size.width.0, size.height.0);
-    let blocks = size.blocks();
     let two = level_uses(mode.second, blocks.width.0, blocks.height.0);
-    let bytes = 1024 * size.macroblocks().0;
+    let bytes = 1024 * frame.size.macroblocks().get();
     Work {
         number: 0,
         cores: one.cores + two.cores,
@@ -75,15 +92,8 @@ fn work_of(mode: Mode, size: Size) -> Work
 pub fn forecast(mode: u32, size: Size) -> Work
     ensures { result ≡ forecast_answer mode size }
 {
-    match check_shape(mode, size) {
-        Checked::Refused(number) => Work {
-            number,
-            cores: 0,
-            square_filters: 0,
-            four_filters: 0,
-            plane_bytes: 0,
-            sample_bytes: 0,
-        },
-        Checked::Ready(known) => work_of(known, size),
+    match Frame::new(mode, size) {
+        Ok(frame) => work_of(frame),
+        Err(refusal) => refusal.into(),
     }
 }

@@ -18,17 +18,17 @@ pub length-square : (v : List ℤ) → length v ≡ 16 → length (undo square_f
 unfolding undo_by square_filter
 length-square v h = simp length-put h
 
--- held in lanes, undone and moved
-pub windows_moved : (grid : List ℤ) (w i to : ℕ) (lane : ℕ → List ℤ) (out old new : List ℤ) → ((l : ℕ) → l < 4 → lane l ≡ get (square w (i + 4 * l)) grid)
-    → ((l : ℕ) → l < 4 → get (square 16 (4 * l)) out ≡ undo square_filter (lane l)) → Placed out old 72 to new → Windows grid w i to old new
+-- undone and moved
+pub windows_moved : (grid : List ℤ) (w i to : ℕ) (out old new : List ℤ) → ((l : ℕ) → l < 4 → get (square 16 (4 * l)) out ≡ undo square_filter (get (square w (i + 4 * l)) grid))
+    → Placed out old 72 to new → Windows grid w i to old new
 unfolding window_at
-windows_moved grid w i to lane out old new held undone p = record {
+windows_moved grid w i to out old new undone p = record {
   len = p.len;
   own = λ y x h k.
       let l = x / 4 in
       let n = 4 * y + x % 4 in
       ap (at new) (omega arith) ∙ sym (square-at 72 (to + 4 * l) new n (omega arith))
-      ∙ ap (λ v. at v n) (p.own l (omega arith) ∙ undone l (omega arith) ∙ ap (undo square_filter) (held l (omega arith)));
+      ∙ ap (λ v. at v n) (p.own l (omega arith) ∙ undone l (omega arith));
   others = p.rest;
 }
 

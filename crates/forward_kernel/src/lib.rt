@@ -4,33 +4,30 @@
 ghost use Rattle.std.specs.Prelude.{◌≡◌, List, ℕ, ◌+◌, ◌*◌, ◌/◌, ◌%◌, ◌<◌, length, ℤ};
 ghost use Rattle.lifting.specs.Program.{at as number};
 ghost use Rattle.figures.specs.Block.{flat};
-ghost use Rattle.lanes.specs.Lanes.{lane_of};
-ghost use Rattle.forward_kernel.specs.Placed.{Placed, InLane, Undone, undone_at};
+ghost use Rattle.forward_kernel.specs.Placed.{Placed, InLane, undone_at};
 
 use core_transform::undo_core;
 use grid::{get_four, put_four};
-use lanes::{hold, lane};
+use lanes::{lane, row};
 
 // A block goes to lane l. Its coefficient 4 is stored twice, so that each row of a lane is four numbers that stand together in the plane.
-fn put_lane(b: [[i32; 4]; 4], l: usize, zeros: &mut [i32], out: &mut [i32])
-    requires l_bound { l < 4 }
-    requires zeros_len { (length zeros.old ≡ 4) × (length out.old ≡ 64) }
+fn put_lane(b: [[i32; 4]; 4], l: usize, zeros: &mut [i32; 4], out: &mut [i32; 64])
+    requires { l < 4 }
     ensures placed { Placed l 1 (number (flat b)) zeros.old zeros.new }
     ensures in_lane { InLane l (flat b) out.new }
     ensures by_index { (i : ℕ) → (i % 16 / 4 ≡ l → ⊥) → number out.new i ≡ number out.old i }
 {
-    let top = b[0];
-    let second = b[1];
+    let [top, second, third, fourth] = b;
     zeros[l] = top[0];
     put_four(out, 1, 4 * l, [top[1], top[2], top[3], second[0]]);
     put_four(out, 1, 16 + 4 * l, second);
-    put_four(out, 1, 32 + 4 * l, b[2]);
-    put_four(out, 1, 48 + 4 * l, b[3]);
+    put_four(out, 1, 32 + 4 * l, third);
+    put_four(out, 1, 48 + 4 * l, fourth);
 }
 
 // The coefficients 1 to 15 of the block in lane l, from its rows: the number three places on is stored twice.
-fn move_lane(out: &[i32], l: usize, rest: &mut [i32], from: usize)
-    requires l_bound { (l < 4) × (length out.now ≡ 64) }
+fn move_lane(out: &[i32; 64], l: usize, rest: &mut [i32], from: usize)
+    requires l_bound { l < 4 }
     requires from_in_bounds { from + 14 < length rest.old }
     ensures { (b : List ℤ) → InLane l b out.now → Placed from 15 (λ k. number b (k + 1)) rest.old rest.new }
 {
@@ -40,22 +37,9 @@ fn move_lane(out: &[i32], l: usize, rest: &mut [i32], from: usize)
     put_four(rest, 1, from + 11, get_four(out, 1, 48 + 4 * l));
 }
 
-// The blocks in the four lanes, their cores undone.
-fn undo_lanes(a: &[i32], b: &[i32], c: &[i32], d: &[i32], zeros: &mut [i32], out: &mut [i32])
-    requires a_len { (length a.now ≡ 16) × (length b.now ≡ 16) × (length c.now ≡ 16) × (length d.now ≡ 16) }
-    requires zeros_len { (length zeros.old ≡ 4) × (length out.old ≡ 64) }
-    ensures { (l : ℕ) → l < 4 →
-        Undone l (lane_of a.now b.now c.now d.now l) zeros.new out.new }
-{
-    for l in 0..4 {
-        put_lane(undo_core(lane(a, b, c, d, 12 - 4 * l)), l, zeros, out);
-    }
-}
-
 // The four blocks of the lanes one after another.
-fn move_lanes(out: &[i32], rest: &mut [i32], from: usize)
-    requires out_len { length out.now ≡ 64 }
-    requires from_in_bounds { from + 59 < length rest.old }
+fn move_lanes(out: &[i32; 64], rest: &mut [i32], from: usize)
+    requires { from + 59 < length rest.old }
     ensures { (b : ℕ → List ℤ) → ((l : ℕ) → l < 4 → InLane l (b l) out.now) → Placed from 60 (λ k. number (b (k / 15)) (k % 15 + 1)) rest.old rest.new }
 {
     move_lane(out, 0, rest, from);
@@ -71,17 +55,15 @@ pub fn undo_four_cores(grid: &[i32], w: usize, at: usize, rest: &mut [i32], from
     ensures by_index { (l : ℕ) → l < 4 → number result l ≡ number (undone_at w (at + 4 * l) grid.now) 0 }
     ensures placed { Placed from 60 (λ k. number (undone_at w (at + 4 * (k / 15)) grid.now) (k % 15 + 1)) rest.old rest.new }
 {
-    let mut a = [0i32; 16];
-    hold(grid, 4, at, &mut a);
-    let mut b = [0i32; 16];
-    hold(grid, 4, at + w, &mut b);
-    let mut c = [0i32; 16];
-    hold(grid, 4, at + w + w, &mut c);
-    let mut d = [0i32; 16];
-    hold(grid, 4, at + w + w + w, &mut d);
-    let mut zeros = [0i32; 4];
-    let mut out = [0i32; 64];
-    undo_lanes(&a, &b, &c, &d, &mut zeros, &mut out);
+    let a = row(grid, 4, at);
+    let b = row(grid, 4, at + w);
+    let c = row(grid, 4, at + w + w);
+    let d = row(grid, 4, at + w + w + w);
+    let mut zeros = [0; 4];
+    let mut out = [0; 64];
+    for l in 0..4 {
+        put_lane(undo_core(lane(&a, &b, &c, &d, l)), l, &mut zeros, &mut out);
+    }
     move_lanes(&out, rest, from);
     zeros
 }

@@ -1,13 +1,15 @@
 -- A block stored number by number, and blocks replaced one after another or four at a time: each adds to what is done and leaves the rest.
-use Prim.Native.Nat.{ℕ, ◌+◌, ◌*◌, ◌/◌, ◌%◌, ◌<◌, ◌≤◌}
+use Prim.Native.Nat.{ℕ, min, ◌+◌, ◌-◌, ◌*◌, ◌/◌, ◌%◌, ◌<◌, ◌≤◌}
 use mathlib.Core.Path.{◌≡◌, refl, ◌∙◌, ap, ap₂}
 use mathlib.Core.Logic.{by_cases}
 use mathlib.Core.List.{List}
 use native.Mathlib.Omega.{arith}
 use native.Mathlib.Decide.{dec_lt}
-use lib.ListN.{length, set}
-use lib.Seq.{get_or-set_same, get_or-set_other}
-use lib.IntN.{ℤ, pos}
+use borrow.Rule.Slice.PartMut.{put_mid}
+use Rattle.std.proofs.Common.{rules}
+use Rattle.std.proofs.lemmas.List.{places}
+use lib.ListN.{length}
+use lib.IntN.{ℤ}
 use Rattle.lifting.specs.Program.{at, get, undo}
 use Rattle.figures.specs.Figures.{core}
 use Rattle.transform.specs.Level.{square}
@@ -20,20 +22,25 @@ pub length-block : (dc low : List ℤ) (t : ℕ) → length (block_in dc low t) 
 unfolding block_in
 length-block dc low t = length-table 16 _
 
--- a block of two lists becomes block t of two others
-pub block_moved : (zeros rest dc : List ℤ) (l t : ℕ) {low dc' low' : List ℤ} → t < length dc → dc' ≡ set dc t (at zeros l) → Placed (15 * t) 15 (λ k. at rest (15 * l + k)) low low'
-    → Replaced t 1 (λ s. block_in zeros rest l) (block_in dc low) (block_in dc' low')
-unfolding block_in
-block_moved zeros rest dc l t {low} {dc'} {low'} room e p = record {
-  own = λ s h k.
-      let y : s ≡ t = omega arith in
-      same_block _ _ (ap (at dc') y ∙ ap (λ v. at v t) e ∙ get_or-set_same dc t (at zeros l) (pos 0) room) (λ k m. ap (λ (r : ℕ). at low' (15 * r + k)) y ∙ p.own k m);
-  below = λ s h. same_block _ _ (other s (λ q. absurd (omega (arith, q)))) (λ k m. p.below (15 * s + k) (omega arith));
-  above = λ s h. same_block _ _ (other s (λ q. absurd (omega (arith, q)))) (λ k m. p.above (15 * s + k) (omega arith));
+-- n numbers written over a part of a list
+pub part_placed : (old part : List ℤ) (i n k : ℕ) (f : ℕ → ℤ) → i + n ≤ length old → k ≡ n → length part ≡ n → ((j : ℕ) → j < n → at part j ≡ f j) → Placed i n f old (put_mid i k old part)
+part_placed old part i n k f room e long own = record {
+  len = rw e (search (rules, places));
+  own = λ j h. let inside : j < length part = omega arith in grind (arith, places) ∙ own j h;
+  below = λ j h. grind (arith, places);
+  above = λ j h. grind (arith, places);
 }
-  where
-    other : (s : ℕ) → (s ≡ t → ⊥) → at dc' s ≡ at dc s
-    other s o = ap (λ v. at v s) e ∙ get_or-set_other dc t s (at zeros l) (pos 0) o
+
+-- the first n blocks of two lists become blocks of two others, from t on
+pub blocks_moved : (zeros rest : List ℤ) (t n : ℕ) {dc low dc' low' : List ℤ} → Placed t n (at zeros) dc dc' → Placed (15 * t) (15 * n) (at rest) low low'
+    → Replaced t n (λ s. block_in zeros rest (s - t)) (block_in dc low) (block_in dc' low')
+unfolding block_in
+blocks_moved zeros rest t n {dc' = dc'} {low'} p q = record {
+  own = λ s h k.
+      same_block _ _ (ap (at dc') (omega arith) ∙ p.own (s - t) (omega arith)) (λ j m. ap (at low') (omega arith) ∙ q.own (15 * (s - t) + j) (omega arith));
+  below = λ s h. same_block _ _ (p.below s h) (λ j m. q.below (15 * s + j) (omega arith));
+  above = λ s h. same_block _ _ (p.above s h) (λ j m. q.above (15 * s + j) (omega arith));
+}
 
 -- ---- blocks after blocks
 
@@ -59,6 +66,12 @@ replaced_more {t} {n} {m} p q = record {
 pub replaced_in_place : (g : List ℤ → List ℤ) {t n m : ℕ} {old mid new : ℕ → List ℤ} → Replaced t n (λ s. g (old s)) old mid → Replaced (t + n) m (λ s. g (mid s)) mid new
     → Replaced t (n + m) (λ s. g (old s)) old new
 replaced_in_place g {t} {n} {m} {old} p q = replaced_more p (replaced_as (t + n) m (λ s. g (old s)) refl refl (λ s h k. ap g (p.above s h)) q)
+
+-- up to four more of them, while there are some
+pub replaced_next : (g : List ℤ → List ℤ) {t n all : ℕ} {old mid new : ℕ → List ℤ} → t < all → n ≡ min (all - t) 4 → Replaced 0 (min t all) (λ s. g (old s)) old mid
+    → Replaced t n (λ s. g (mid s)) mid new → Replaced 0 (min (t + 4) all) (λ s. g (old s)) old new
+replaced_next g {t} {n} {all} inside few p q =
+    replaced_as 0 (min (t + 4) all) _ refl (omega arith) (λ s h k. refl) (replaced_in_place g p (replaced_as (0 + min t all) n _ (omega arith) refl (λ s h k. refl) q))
 
 -- ---- four blocks undone together
 

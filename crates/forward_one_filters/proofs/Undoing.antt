@@ -40,7 +40,7 @@ pub record Undoing (size : Size) (f : ℕ → Program) (n : ℕ) (dc₀ low₀ d
   pub to_undo : undo (each i f) (numbers size dc low) ≡ undo (each n f) (numbers size dc₀ low₀)
 
 pub still_held : {size : Size} {dc low dc' low' : List ℤ} → Held size dc low → length dc' ≡ length dc → length low' ≡ length low → Held size dc' low'
-still_held h a b = record { sized = h.sized; of-dc = a ∙ h.of-dc; of_low = b ∙ h.of_low }
+still_held h a b = record { of-dc = a ∙ h.of-dc; of_low = b ∙ h.of_low }
 
 pub undoing_start : {size : Size} {f : ℕ → Program} {n i : ℕ} {dc low : List ℤ} → Held size dc low → i ≡ n → Undoing size f n dc low dc low i
 undoing_start {size} {f} {dc = dc} {low} h e =

@@ -15,6 +15,11 @@ use Rattle.transform.proofs.Grid.{first_coefficient, later_coefficient, at-grid,
 back_one : (k : ℕ) → suc k - 1 ≡ k
 back_one k = omega arith
 
+-- a grid with a square has a width
+pub wide-where : (W H t : ℕ) → t < W * H → 0 < W
+wide-where zero H t h = absurd (omega (arith, h))
+wide-where (suc W) H t h = omega arith
+
 module _ {W : ℕ} (wide : 0 < W) (H : ℕ) where
   -- grids that differ in coefficient k of square s alone
   grid-set : (f f' : ℕ → ℕ → ℤ) (s k : ℕ) (x : ℤ) → s < W * H → k < 16 → f' s k ≡ x

@@ -1,33 +1,32 @@
 -- From the strip to the planes: a block's square in the strip is its square in the unfiltered samples, so its core undone is the block; and what a group of macroblocks adds.
 use Prim.Native.Nat.{ℕ, ◌+◌, ◌-◌, ◌*◌, ◌/◌, ◌%◌, ◌≤◌, ◌<◌}
-use mathlib.Core.Path.{◌≡◌, refl, sym, ◌∙◌, ap, ap₂, subst}
-use mathlib.Core.Logic.{◌⊎◌, inl, inr, by_cases}
+use mathlib.Core.Path.{◌≡◌, refl, sym, ◌∙◌, ap, ap₂}
+use mathlib.Core.Logic.{by_cases}
 use mathlib.Core.List.{List}
 use native.Mathlib.Omega.{arith}
-use native.Mathlib.Decide.{ℕ_discrete, dec_lt}
+use native.Mathlib.Decide.{dec_lt}
 use native.Mathlib.Nat.{add-mul, mul-le-mul_right}
 use lib.Arith.{digits_div, digits_mod}
-use lib.ListN.{length, set, length-set}
-use lib.Seq.{get_or-set_same, get_or-set_other}
-use lib.IntN.{ℤ, pos}
+use lib.ListN.{length}
+use lib.IntN.{ℤ}
 use Rattle.lifting.specs.Program.{at, get, undo}
 use Rattle.figures.specs.Figures.{core}
 use Rattle.transform.specs.Level.{cell, square}
 use Rattle.transform.specs.Grids.{block_at}
 use Rattle.picture.specs.Sizes.{macroblocks}
+use Rattle.picture.specs.Planes.{Lengths, planes}
 use Rattle.picture.specs.declared.size.Size.{Size}
 use Rattle.picture.proofs.Table.{same_lists}
 use Rattle.lanes.proofs.Rows.{square-at}
 use Rattle.grid.proofs.Rows.{row_inside}
 use Rattle.forward_kernel.specs.Placed.{undone_at}
 use Rattle.forward_two_cores.specs.declared.cells.Cells.{Cells}
-use Rattle.forward_two_cores.specs.Cells.{OfOne}
-use Rattle.forward_two_cores.specs.Blocks.{square_in, undone_in, Among, Replaced}
+use Rattle.forward_two_cores.specs.Blocks.{square_in, undone_in, Among}
 use Rattle.forward_two_edges.specs.Unfiltered.{unfiltered}
 use Rattle.forward_two_edges.specs.Strip.{Holds, Kept}
-use Rattle.forward_two_edges.proofs.Strips.{holds_kept, holds_under, holds_beside, holds_as}
+use Rattle.forward_two_edges.proofs.Strips.{holds_kept, holds_under, holds_as}
 use Rattle.forward_two_parked.specs.Parked.{place_in, Fetched}
-use Rattle.forward_two.specs.Strips.{Carried, Through, Planes, Lowered}
+use Rattle.forward_two.specs.Strips.{Carried, Through, Lowered}
 
 length_sixteen : (w i : ℕ) (v : List ℤ) → length (get (square w i) v) ≡ 16
 unfolding get square
@@ -162,94 +161,19 @@ module _ (size : Size) (samples : List ℤ) (wide : 0 < size.width.0) (r c n : �
 abbrev pub CarriedUpTo : ℕ → List ℤ → List ℤ → Type 0
 CarriedUpTo n old new = (y x : ℕ) → y < n → x < 2 → at new (72 * y + x) ≡ at old (72 * y + 64 + x)
 
-carry-row : (n : ℕ) (old mid : List ℤ) (u v : ℤ) → n < 18 → length mid ≡ 1296 → u ≡ at mid (72 * n + 64) → v ≡ at (set mid (72 * n) u) (72 * n + 65)
-    → CarriedUpTo n old mid → Kept 0 18 0 2 old mid → CarriedUpTo (n + 1) old (set (set mid (72 * n) u) (72 * n + 1) v) × Kept 0 18 0 2 old (set (set mid (72 * n) u) (72 * n + 1) v)
-carry-row n old mid u v low room e f d k =
-    let one = set mid (72 * n) u in
-    let new = set one (72 * n + 1) v in
-    let length-one : length one ≡ 1296 = length-set mid (72 * n) u ∙ room in
-    let first : at new (72 * n) ≡ at old (72 * n + 64) = get_or-set_other one (72 * n + 1) (72 * n) v (pos 0) (λ q. absurd (omega (arith, q))) ∙ get_or-set_same mid (72 * n) u (pos 0) (omega arith) ∙ e
-    ∙ k.same n 64 (omega arith) (λ a b g h. absurd (omega arith)) in
-    let second : at new (72 * n + 1) ≡ at old (72 * n + 65) = get_or-set_same one (72 * n + 1) v (pos 0) (omega arith) ∙ f ∙ get_or-set_other mid (72 * n) (72 * n + 65) u (pos 0) (λ q. absurd (omega (arith, q)))
-    ∙ k.same n 65 (omega arith) (λ a b g h. absurd (omega arith)) in (
-      λ y x h l. by_cases (ℕ_discrete y n)
-          (λ q. by_cases (ℕ_discrete x 0)
-          (λ o. ap₂ (λ (a b : ℕ). at new (72 * a + b)) q o ∙ ap (at new) (omega arith) ∙ first ∙ ap (at old) (omega (arith, q, o)))
-          (λ o. let w : x ≡ 1 = omega (arith, o) in ap₂ (λ (a b : ℕ). at new (72 * a + b)) q w ∙ second ∙ ap (at old) (omega (arith, q, w))))
-          (λ q. get_or-set_other one (72 * n + 1) (72 * y + x) v (pos 0) (λ o. q (omega (arith, o))) ∙ get_or-set_other mid (72 * n) (72 * y + x) u (pos 0) (λ o. q (omega (arith, o))) ∙ d y x (omega (arith, q)) l),
-      record {
-        len = length-set one (72 * n + 1) v ∙ length-set mid (72 * n) u ∙ k.len;
-        same = λ y x h o. get_or-set_other one (72 * n + 1) (72 * y + x) v (pos 0) (λ q. o (omega (arith, q)) (omega (arith, q)) (omega (arith, q)) (omega (arith, q)))
-            ∙ get_or-set_other mid (72 * n) (72 * y + x) u (pos 0) (λ q. o (omega (arith, q)) (omega (arith, q)) (omega (arith, q)) (omega (arith, q))) ∙ k.same y x h o;
-      },
-    )
-
--- the same where the row begins at place i
-pub carry_more : (n i : ℕ) (old mid : List ℤ) (u v : ℤ) → i ≡ 72 * n → n < 18 → length mid ≡ 1296 → u ≡ at mid (i + 64) → v ≡ at (set mid i u) (i + 65)
-    → CarriedUpTo n old mid → Kept 0 18 0 2 old mid → CarriedUpTo (n + 1) old (set (set mid i u) (i + 1) v) × Kept 0 18 0 2 old (set (set mid i u) (i + 1) v)
-carry_more n i old mid u v begins low room e f d k = rw begins (carry-row n old mid u v low room (rw begins at e) (rw begins at f) d k)
-
--- ---- core after core
-
-pub cores_more : (m n : ℕ) (f : ℕ → ℕ → List ℤ) {old mid new : ℕ → List ℤ} → Replaced (λ t. t / 16 ≡ m + n) (λ t. f n (t % 16)) mid new
-    → ((t b : ℕ) → b < n → t / 16 ≡ m + b → mid t ≡ f b (t % 16)) → ((t : ℕ) → (Among m (m + n) t → ⊥) → mid t ≡ old t)
-    → ((t b : ℕ) → b < n + 1 → t / 16 ≡ m + b → new t ≡ f b (t % 16)) × ((t : ℕ) → (Among m (m + (n + 1)) t → ⊥) → new t ≡ old t)
-cores_more m n f {old} {mid} {new} r own others = (
-  λ t b h e. by_cases (ℕ_discrete b n) (λ q. r.own t (omega (arith, e, q)) ∙ ap (λ (i : ℕ). f i (t % 16)) (sym q)) (λ o. r.others t (λ q. o (omega (arith, e, q))) ∙ own t b (omega (arith, o)) e),
-  λ t o. r.others t (λ q. o (omega (arith, q), omega (arith, q))) ∙ others t (λ a. o (omega (arith, a), omega (arith, a))),
-)
-
--- ---- the columns of a group
-
-module _ {size : Size} {samples : List ℤ} (r c n first : ℕ) (some : 0 < n) (few : n ≤ 4) where
-  pub inner_columns : {v w : List ℤ} → Holds size samples r c first 18 0 2 v → Holds size samples r c first 18 2 (4 * (4 * n) + 2) w → Kept first 18 2 72 v w → Holds size samples r c first 18 0 (16 * n + 2) w
-  inner_columns a b k =
-      holds_as r c first 18 0 (16 * n + 2) (omega arith) (omega arith) (omega arith) (omega arith)
-      (holds_beside r c first 18 0 2 (4 * (4 * n) + 2) (holds_kept r c first 18 0 2 first 18 2 72 (omega arith) (λ y x d e f g h i j l. absurd (omega arith)) a k) b)
-
-  -- the last columns of a picture lie at its edge, and there are no more
-  pub last_columns : {v w z : List ℤ} → c + n ≡ size.width.0 → Holds size samples r c first 18 0 2 v → Holds size samples r c first 18 2 (4 * (4 * n - 1) + 2) w → Kept first 18 2 72 v w
-      → Holds size samples r c first 18 (16 * n - 2) (16 * n - 2 + 2) z → Kept first 18 (16 * n - 2) (16 * n - 2 + 2) w z → Holds size samples r c first 18 0 (16 * n + 2) z
-  last_columns end a b k d m =
-      let m' = 16 * n - 2 in
-      let left = holds_kept r c first 18 0 2 first 18 2 72 (omega arith) (λ y x e f g h i j l o. absurd (omega arith)) a k in
-      let both = holds_as r c first 18 0 m' (omega arith) (omega arith) (omega arith) (omega arith) (holds_beside r c first 18 0 2 (4 * (4 * n - 1) + 2) left b) in
-      let all = holds_beside r c first 18 0 m' (m' + 2) (holds_kept r c first 18 0 m' first 18 m' (m' + 2) (omega arith) (λ y x e f g h i j l o. absurd (omega arith)) both m) d in
-      record { there = λ y x e f g h i j. all.there y x e f g (omega arith) i j }
-
 -- ---- a group's macroblocks, and those below them, are macroblocks of the picture
 
-pub group_inside : (size : Size) (r c n : ℕ) (cells : Cells) {dc low high : List ℤ} → cells.dc ≡ r * size.width.0 + c → OfOne cells → r < size.height.0 → c + n ≤ size.width.0 → Planes size dc low high
+pub group_inside : (size : Size) (r c n : ℕ) (cells : Cells) {dc low high : List ℤ} → cells.dc ≡ r * size.width.0 + c → r < size.height.0 → c + n ≤ size.width.0 → Lengths (macroblocks size) (planes dc low high)
     → (cells.dc + n ≤ length dc) × (cells.low + 15 * n ≤ length low) × (cells.high + 240 * n ≤ length high)
-group_inside size r c n cells place one h k p =
+group_inside size r c n cells place h k p =
     let W = size.width.0 in
     let all : cells.dc + n ≤ macroblocks size = omega (arith, row_inside r size.height.0 W h) in
-    (omega (arith, all, p.of-dc), omega (arith, all, p.of_low), omega (arith, all, p.of-high))
+    (omega (arith, all, p.dc), omega (arith, all, p.low, cells.of_one), omega (arith, all, p.high, cells.of_one))
 
--- ---- which of two cases
-
-pub not_first : (first r : ℕ) → ((first ≡ 0) × (r ≡ 0)) ⊎ ((first ≡ 2) × (0 < r)) → 0 < first → (first ≡ 2) × (0 < r)
-not_first first r (inl h) k = absurd (omega (arith, h))
-not_first first r (inr h) k = h
-
-pub last_row : (down r H : ℕ) → ((down ≡ 3) × (r + 1 ≡ H)) ⊎ ((down ≡ 4) × (r + 1 < H)) → down ≡ 3 → r + 1 ≡ H
-last_row down r H (inl h) k = h.1
-last_row down r H (inr h) k = absurd (omega (arith, h, k))
-
-pub not_last : (down r H : ℕ) → ((down ≡ 3) × (r + 1 ≡ H)) ⊎ ((down ≡ 4) × (r + 1 < H)) → (down ≡ 3 → ⊥) → r + 1 < H
-not_last down r H (inl h) k = absurd (k h.0)
-not_last down r H (inr h) k = h.1
+-- ---- below the last row of macroblocks there is none
 
 pub none_below : (size : Size) (r c n : ℕ) (strip : List ℤ) (blocks : ℕ → List ℤ) → r + 1 ≡ size.height.0 → Lowered size (r * size.width.0 + c + size.width.0) n strip blocks blocks
 none_below size r c n strip blocks e =
     let W = size.width.0 in
     let all : W * size.height.0 ≡ r * W + W = ap (λ (h : ℕ). W * h) (sym e) ∙ omega arith in
     record { own = λ t b j h f g k l. absurd (omega (arith, f, g, all)); others = λ t h. refl }
-
--- ---- how far the strip has gone
-
-pub through_none : (size : Size) (samples : List ℤ) (blocks : ℕ → List ℤ) → Through size samples 0 blocks
-through_none size samples blocks = record { done = λ t h. absurd (omega arith); parked = λ t j h k l e f g. absurd (omega arith) }
-
-pub through_as : {size : Size} {samples : List ℤ} {n : ℕ} {blocks : ℕ → List ℤ} (m : ℕ) → n ≡ m → Through size samples n blocks → Through size samples m blocks
-through_as {size} {samples} {n} {blocks} m e d = subst (λ (k : ℕ). Through size samples k blocks) e d

@@ -1,5 +1,5 @@
 -- How far the strip has gone through a picture: which blocks are done, and which rows are parked for the macroblock row below.
-use Rattle.std.specs.Prelude.{ℕ, ◌+◌, ◌*◌, ◌/◌, ◌%◌, ◌<◌, ◌≤◌, ◌≡◌, List, length, ℤ}
+use Rattle.std.specs.Prelude.{ℕ, ◌+◌, ◌*◌, ◌/◌, ◌%◌, ◌<◌, ◌≤◌, ◌≡◌, List, ℤ}
 use Rattle.lifting.specs.Program.{at, undo}
 use Rattle.figures.specs.Figures.{core}
 use Rattle.transform.specs.Level.{cell}
@@ -19,12 +19,6 @@ pub record Through (size : Size) (samples : List ℤ) (n : ℕ) (blocks : ℕ �
   pub done : (t : ℕ) → t / 16 < n → blocks t ≡ undo core (square_in size.width.0 (unfiltered size samples) t)
   pub parked : (t j : ℕ) → n ≤ t / 16 → t / 16 < n + size.width.0 → size.width.0 ≤ t / 16 → t / 16 < macroblocks size → t % 16 < 4 → j < 8
       → at (blocks t) j ≡ at (square_in size.width.0 (unfiltered size samples) t) j
-
--- planes of a picture's lengths
-pub record Planes (size : Size) (dc low high : List ℤ) : Type 0 where
-  pub of-dc : length dc ≡ macroblocks size
-  pub of_low : length low ≡ 15 * macroblocks size
-  pub of-high : length high ≡ 240 * macroblocks size
 
 -- the upper blocks of macroblocks m to m + n - 1 have rows 16 and 17 of the strip, where the picture has these macroblocks, and all others what they had
 pub record Lowered (size : Size) (m n : ℕ) (strip : List ℤ) (old new : ℕ → List ℤ) : Type 0 where

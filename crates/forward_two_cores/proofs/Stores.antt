@@ -17,7 +17,7 @@ use Rattle.transform.proofs.Grid.{first_coefficient, later_coefficient}
 use Rattle.grid.proofs.Rows.{row_inside}
 use Rattle.forward_kernel.specs.Placed.{Placed, undone_at}
 use Rattle.forward_kernel.proofs.Stores.{same_block, block-is, at_block, length_undone}
-use Rattle.forward_two_cores.specs.Blocks.{zero_of, block_of, square_in, undone_in, Among, InRows, Replaced}
+use Rattle.forward_two_cores.specs.Blocks.{zero_of, block_of, square_in, undone_in, InRows, Replaced}
 
 -- ---- what is replaced after something else
 
@@ -40,10 +40,6 @@ module _ {A : Type 0} {f old new : ℕ → A} where
     own = λ t h. by_cases (dec_lt (key t) b) (λ u. q.others t (λ z. absurd (omega (arith, u, (above t z).1))) ∙ p.own t (first t h u)) (λ u. q.own t (second t h (omega (arith, u))));
     others = λ t n. q.others t (λ z. n (above t z).0) ∙ p.others t (λ z. n (below t z));
   }
-
-  -- macroblocks after macroblocks
-  pub among_more : {mid : ℕ → A} (a b c : ℕ) → a ≤ b → b ≤ c → Replaced (Among a b) f old mid → Replaced (Among b c) f mid new → Replaced (Among a c) f old new
-  among_more a b c h k = replaced_more (λ t. t / 16) b (λ t r u. (r.0, u)) (λ t r u. (u, r.1)) (λ t r. (r.0, omega (arith, r))) (λ t r. ((omega (arith, r), r.1), r.0))
 
   -- in the rows a to b - 1, blocks after blocks
   pub along_more : {mid : ℕ → A} (a b : ℕ) (m n p : ℕ) → m ≤ n → n ≤ p → Replaced (InRows a b m n) f old mid → Replaced (InRows a b n p) f mid new → Replaced (InRows a b m p) f old new

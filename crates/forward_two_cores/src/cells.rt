@@ -7,14 +7,25 @@ pub struct Cells {
     pub dc: usize,
     pub low: usize,
     pub high: usize,
+    pub ghost of_one: { OfOne dc low high },
 }
 
 impl Cells {
-    // Those of the macroblock n after this one.
+    // Those of a picture's first macroblock.
+    pub fn first() -> Cells
+        ensures { result.dc ≡ 0 }
+    {
+        Cells {
+            dc: 0,
+            low: 0,
+            high: 0,
+        }
+    }
+
+    // Those of the macroblock n after this one. Loops over rows carry the cells along by it, as they do the place in the samples.
     pub fn after(self, n: usize) -> Cells
-        requires of_one { OfOne self }
-        requires n_bound { self.high + 240 * n < 18446744073709551616 }
-        ensures { (result.dc ≡ self.dc + n) × OfOne result }
+        requires { self.high + 240 * n < 18446744073709551616 }
+        ensures { result.dc ≡ self.dc + n }
     {
         Cells {
             dc: self.dc + n,

@@ -1,7 +1,7 @@
 -- The strip filled piece by piece: what is stored along a line, what that settles by rows and columns, and how settled rows and columns join.
 use Prim.Native.Nat.{ℕ, ◌+◌, ◌-◌, ◌*◌, ◌/◌, ◌%◌, ◌≤◌, ◌<◌}
 use mathlib.Core.Path.{◌≡◌, refl, sym, ◌∙◌, ap, ap₂}
-use mathlib.Core.Logic.{◌⊎◌, inl, inr, by_cases}
+use mathlib.Core.Logic.{by_cases}
 use mathlib.Core.List.{List}
 use native.Mathlib.Omega.{arith}
 use native.Mathlib.Decide.{ℕ_discrete, dec_lt}
@@ -22,8 +22,8 @@ use Rattle.picture.proofs.CheckLaws.{few_macroblocks}
 use Rattle.grid.proofs.Rows.{row_inside}
 use Rattle.forward_kernel.proofs.Stores.{below-four}
 use Rattle.forward_two_edges.specs.Unfiltered.{unfiltered, Edge, First}
-use Rattle.forward_two_edges.specs.declared.place.Place.{Place}
-use Rattle.forward_two_edges.specs.Strip.{Holds, Kept, Given, Rows, Stands, Spread, Columns, unfiltered_at}
+use Rattle.forward_two_edges.specs.declared.macroblock.Macroblock.{Macroblock}
+use Rattle.forward_two_edges.specs.Strip.{Holds, Kept, Spread, Columns, unfiltered_at}
 use Rattle.forward_two_edges.proofs.Alone.{first_edge}
 use Rattle.forward_two_edges.proofs.Numbers.{cell-low, at-four, row_at, column-at, corner-at}
 
@@ -78,9 +78,6 @@ spread_more samples step a i far n b j {old} {mid} {new} some here e p q =
 
 -- ---- numbers down two columns
 
-pub columns_none : (i : ℕ) (f : ℕ → ℕ → ℤ) (v : List ℤ) → Columns i 0 f v v
-columns_none i f v = record { len = refl; own = λ b k h l. absurd (omega arith); others = λ j h. refl }
-
 -- number j of the unfiltered fours in column b, of which the first begins at place a
 abbrev pub fours_down : List ℤ → ℕ → ℕ → ℕ → ℕ → ℤ
 fours_down samples w a b j = at (unfiltered_at samples w (a + b + 4 * w * (j / 4))) (j % 4)
@@ -120,13 +117,6 @@ module _ {size : Size} {samples : List ℤ} (r c : ℕ) where
   pub holds_as : {t b l k : ℕ} (t' b' l' k' : ℕ) {v : List ℤ} → t ≤ t' → b' ≤ b → l ≤ l' → k' ≤ k → Holds size samples r c t b l k v → Holds size samples r c t' b' l' k' v
   holds_as t' b' l' k' e f g h d = record { there = λ y x m n o p u v. d.there y x (omega arith) (omega arith) (omega arith) (omega arith) u v }
 
-  -- one more row
-  pub holds_next : (t y l k : ℕ) {old new : List ℤ} → k ≤ 72 → Holds size samples r c t y l k old → Holds size samples r c y (y + 1) l k new → Kept y (y + 1) l k old new → Holds size samples r c t (y + 1) l k new
-  holds_next t y l k h d e f = holds_under t y (y + 1) l k (holds_kept t y l k y (y + 1) l k h (λ z x a b m n u v o w. absurd (omega arith)) d f) e
-
-pub kept-none : (t b l k : ℕ) (v : List ℤ) → Kept t b l k v v
-kept-none t b l k v = record { len = refl; same = λ y x h n. refl }
-
 pub kept_as : {t b l k : ℕ} (t' b' l' k' : ℕ) {old new : List ℤ} → t' ≤ t → b ≤ b' → l' ≤ l → k ≤ k' → Kept t b l k old new → Kept t' b' l' k' old new
 kept_as t' b' l' k' e f g h d = record { len = d.len; same = λ y x m n. d.same y x m (λ p q u v. n (omega arith) (omega arith) (omega arith) (omega arith)) }
 
@@ -135,29 +125,11 @@ kept_then d e = record { len = e.len ∙ d.len; same = λ y x m n. e.same y x m 
 
 -- ---- row after row
 
--- the same picture with another strip
-pub given_of : {size : Size} {r c : ℕ} {samples old new : List ℤ} → Given size r c samples old → length new ≡ 1296 → Given size r c samples new
-given_of g e = record { sized = g.sized; below = g.below; beside = g.beside; of-samples = g.of-samples; of-strip = e }
-
 -- of rows top to bottom, those before row y are there, and nothing outside them has changed
 pub record Made (size : Size) (samples : List ℤ) (r c top bottom left right y : ℕ) (old new : List ℤ) : Type 0 where
   pub from : top ≤ y
   pub holds : Holds size samples r c top y left right new
   pub kept : Kept top bottom left right old new
-
-pub made_none : (size : Size) (samples : List ℤ) (r c t b l k : ℕ) (v : List ℤ) → Made size samples r c t b l k t v v
-made_none size samples r c t b l k v = record { from = omega arith; holds = record { there = λ y x f g h i u v. absurd (omega arith) }; kept = kept-none t b l k v }
-
-module _ {size : Size} {samples : List ℤ} (r c t b l k y : ℕ) {old mid : List ℤ} (m : Made size samples r c t b l k y old mid) where
-  pub made_next : {new : List ℤ} → k ≤ 72 → y < b → record { holds : Holds size samples r c y (y + 1) l k new; kept : Kept y (y + 1) l k mid new } → Made size samples r c t b l k (y + 1) old new
-  made_next few below e = record {
-    from = omega (arith, m.from);
-    holds = holds_next r c t y l k few m.holds e.holds e.kept;
-    kept = kept_then m.kept (kept_as t b l k m.from (omega arith) (omega arith) (omega arith) e.kept);
-  }
-
-  pub made_all : b ≤ y → record { holds : Holds size samples r c t b l k mid; kept : Kept t b l k old mid }
-  made_all h = record { holds = holds_as r c t b l k (omega arith) h (omega arith) (omega arith) m.holds; kept = m.kept }
 
 -- ---- places of the samples
 
@@ -167,11 +139,6 @@ place-low size z y x e h k =
     let W = size.width.0 in
     let H = size.height.0 in
     (omega (arith, e, cell-low (4 * W) (4 * H) y x (omega arith) (omega arith)), omega (arith, few_macroblocks z))
-
--- the place of a later row is small too
-pub later_row_few : {size : Size} {r c : ℕ} {samples strip : List ℤ} → Given size r c samples strip → (y x a : ℕ) → a ≡ cell (4 * size.width.0) (16 * r + y) (16 * c + x) → 16 * r + y < 16 * size.height.0
-    → 16 * c + x < 16 * size.width.0 → a + 64 * size.width.0 ≤ 55540800
-later_row_few {size} {r} {c} g y x a e h k = omega (arith, place-low size g.sized (16 * r + y) (16 * c + x) e h k, g.sized.most-wide)
 
 -- ---- what a line settles
 
@@ -262,88 +229,39 @@ module _ (size : Size) (samples : List ℤ) (wide : 0 < size.width.0) (tall : 0 
       away : (z w : ℕ) → (y ≤ z → z < y + 2 → x ≤ w → w < x + 2 → ⊥) → (m n : ℕ) → m < 2 → n < 2 → w < 72 → 72 * (y + m) + (x + n) ≡ 72 * z + w → ⊥
       away z w o m n hm hn h q = o (omega arith) (omega arith) (omega arith) (omega arith)
 
--- ---- a row of macroblocks: which of its rows lie at an edge
+-- ---- a macroblock: which of its rows lie at an edge
 
-module _ {size : Size} {r first down : ℕ} (low : r < size.height.0) (rows : Rows size r first down) where
-  pub rows-first : first ≤ 2
-  rows-first = which rows.top
-    where
-      which : ((first ≡ 0) × (r ≡ 0)) ⊎ ((first ≡ 2) × (0 < r)) → first ≤ 2
-      which (inl h) = omega (arith, h)
-      which (inr h) = omega (arith, h)
+module _ (m : Macroblock) where
+  pub rows-first : m.first ≤ 2
+  rows-first = grind (arith, m.top)
 
-  -- the first row, if it lies above the windows, is the first of the strip
-  pub first-place : (c x : ℕ) (place : Place) → Stands size r c 0 x place → first < 2 → Stands size r c first x place
-  first-place c x place e h = rw (which rows.top) e
-    where
-      which : ((first ≡ 0) × (r ≡ 0)) ⊎ ((first ≡ 2) × (0 < r)) → first ≡ 0
-      which (inl k) = omega (arith, k)
-      which (inr k) = absurd (omega (arith, k))
-
-  pub rows_down : (3 ≤ down) × (down ≤ 4) × (4 * r + down < 4 * size.height.0)
-  rows_down = which rows.bottom
-    where
-      which : ((down ≡ 3) × (r + 1 ≡ size.height.0)) ⊎ ((down ≡ 4) × (r + 1 < size.height.0)) → (3 ≤ down) × (down ≤ 4) × (4 * r + down < 4 * size.height.0)
-      which (inl h) = (omega (arith, h), omega (arith, h), omega (arith, h))
-      which (inr h) = (omega (arith, h), omega (arith, h), omega (arith, h))
-
-  pub rows_above : (y : ℕ) → first ≤ y → y < 2 → Edge (4 * size.height.0) (16 * r + y) × (16 * r + y < 16 * size.height.0)
-  rows_above y h k = which rows.top
-    where
-      which : ((first ≡ 0) × (r ≡ 0)) ⊎ ((first ≡ 2) × (0 < r)) → Edge (4 * size.height.0) (16 * r + y) × (16 * r + y < 16 * size.height.0)
-      which (inl e) = (inl (omega (arith, e)), omega (arith, e))
-      which (inr e) = absurd (omega (arith, e))
-
-  pub rows-below : (y : ℕ) → 4 * down + 2 ≤ y → y < 16 → Edge (4 * size.height.0) (16 * r + y) × (16 * r + y < 16 * size.height.0)
-  rows-below y h k = which rows.bottom
-    where
-      which : ((down ≡ 3) × (r + 1 ≡ size.height.0)) ⊎ ((down ≡ 4) × (r + 1 < size.height.0)) → Edge (4 * size.height.0) (16 * r + y) × (16 * r + y < 16 * size.height.0)
-      which (inl e) = (inr (omega (arith, e)), omega (arith, e))
-      which (inr e) = absurd (omega (arith, e))
-
-  -- the two rows above the windows, where there are any, and the two below them
-  pub corner-above : first < 2 → (2 ≡ first + 2) × First (4 * size.height.0) (16 * r + first)
-  corner-above h = which rows.top
-    where
-      which : ((first ≡ 0) × (r ≡ 0)) ⊎ ((first ≡ 2) × (0 < r)) → (2 ≡ first + 2) × First (4 * size.height.0) (16 * r + first)
-      which (inl e) = (omega (arith, e), inl (omega (arith, e)))
-      which (inr e) = absurd (omega (arith, e))
-
-  pub corner-below : 4 * down + 2 < 16 → (16 ≡ 4 * down + 2 + 2) × First (4 * size.height.0) (16 * r + (4 * down + 2))
-  corner-below h = which rows.bottom
-    where
-      which : ((down ≡ 3) × (r + 1 ≡ size.height.0)) ⊎ ((down ≡ 4) × (r + 1 < size.height.0)) → (16 ≡ 4 * down + 2 + 2) × First (4 * size.height.0) (16 * r + (4 * down + 2))
-      which (inl e) = (omega (arith, e), inr (omega (arith, e)))
-      which (inr e) = absurd (omega (arith, e))
+  pub rows_down : (3 ≤ m.down) × (m.down ≤ 4) × (4 * m.r + m.down < 4 * m.size.height.0)
+  rows_down = (grind (arith, m.bottom, m.below), grind (arith, m.bottom, m.below), grind (arith, m.bottom, m.below))
 
   -- a row that is neither above the windows' end nor above row 16 is no row of the picture
-  beyond : (y : ℕ) → ¬ (y < 4 * down + 2) → ¬ (y < 16) → y < 18 → 16 * r + y < 16 * size.height.0 → ⊥
-  beyond y h k l m = which rows.bottom
-    where
-      which : ((down ≡ 3) × (r + 1 ≡ size.height.0)) ⊎ ((down ≡ 4) × (r + 1 < size.height.0)) → ⊥
-      which (inl e) = omega (arith, e, k)
-      which (inr e) = omega (arith, e, h)
+  beyond : (y : ℕ) → ¬ (y < 4 * m.down + 2) → ¬ (y < 16) → y < 18 → 16 * m.r + y < 16 * m.size.height.0 → ⊥
+  beyond y h k l n = grind (arith, h, k, m.bottom)
 
   -- the rows above the windows, those of the windows and those below them
-  pub three_rows : {samples : List ℤ} (c l k : ℕ) {v : List ℤ} → Holds size samples r c first 2 l k v → Holds size samples r c 2 (4 * down + 2) l k v → Holds size samples r c (4 * down + 2) 16 l k v → Holds size samples r c first 18 l k v
-  three_rows c l k a b d =
+  pub three_rows : {samples : List ℤ} (l k : ℕ) {v : List ℤ} → Holds m.size samples m.r m.c m.first 2 l k v → Holds m.size samples m.r m.c 2 (4 * m.down + 2) l k v → Holds m.size samples m.r m.c (4 * m.down + 2) 16 l k v → Holds m.size samples m.r m.c m.first 18 l k v
+  three_rows l k a b d =
       record {
-        there = λ y x f g m n u v.
-            by_cases (dec_lt y 2) (λ z. a.there y x f z m n u v)
-            (λ z. by_cases (dec_lt y (4 * down + 2)) (λ w. b.there y x (omega (arith, z)) w m n u v)
-            (λ w. by_cases (dec_lt y 16) (λ o. d.there y x (omega (arith, w)) o m n u v) (λ o. absurd (beyond y w o g u))));
+        there = λ y x f g o n u v.
+            by_cases (dec_lt y 2) (λ z. a.there y x f z o n u v)
+            (λ z. by_cases (dec_lt y (4 * m.down + 2)) (λ w. b.there y x (omega (arith, z)) w o n u v)
+            (λ w. by_cases (dec_lt y 16) (λ q. d.there y x (omega (arith, w)) q o n u v) (λ q. absurd (beyond y w q g u))));
       }
 
-  pub columns_joined : {samples : List ℤ} (c x : ℕ) {v0 v1 v2 v3 : List ℤ} → x ≤ 70 → record { holds : Holds size samples r c first 2 x (x + 2) v1; kept : Kept first 2 x (x + 2) v0 v1 }
-      → record { holds : Holds size samples r c 2 (4 * down + 2) x (x + 2) v2; kept : Kept 2 (4 * down + 2) x (x + 2) v1 v2 }
-      → record { holds : Holds size samples r c (4 * down + 2) 16 x (x + 2) v3; kept : Kept (4 * down + 2) 16 x (x + 2) v2 v3 }
-      → record { holds : Holds size samples r c first 18 x (x + 2) v3; kept : Kept first 18 x (x + 2) v0 v3 }
-  columns_joined c x few a b d =
+  pub columns_joined : {samples : List ℤ} (x : ℕ) {v0 v1 v2 v3 : List ℤ} → x ≤ 70 → record { holds : Holds m.size samples m.r m.c m.first 2 x (x + 2) v1; kept : Kept m.first 2 x (x + 2) v0 v1 }
+      → record { holds : Holds m.size samples m.r m.c 2 (4 * m.down + 2) x (x + 2) v2; kept : Kept 2 (4 * m.down + 2) x (x + 2) v1 v2 }
+      → record { holds : Holds m.size samples m.r m.c (4 * m.down + 2) 16 x (x + 2) v3; kept : Kept (4 * m.down + 2) 16 x (x + 2) v2 v3 }
+      → record { holds : Holds m.size samples m.r m.c m.first 18 x (x + 2) v3; kept : Kept m.first 18 x (x + 2) v0 v3 }
+  columns_joined x few a b d =
       let n = rows_down in
       let f = rows-first in
-      let above = holds_kept r c first 2 x (x + 2) 2 (4 * down + 2) x (x + 2) (omega arith) (λ y z g h k l m o p q. absurd (omega arith)) a.holds b.kept in record {
-        holds = three_rows c x (x + 2) (holds_kept r c first 2 x (x + 2) (4 * down + 2) 16 x (x + 2) (omega arith) (λ y z g h k l m o p q. absurd (omega (arith, n))) above d.kept)
-            (holds_kept r c 2 (4 * down + 2) x (x + 2) (4 * down + 2) 16 x (x + 2) (omega arith) (λ y z g h k l m o p q. absurd (omega arith)) b.holds d.kept) d.holds;
-        kept = kept_then (kept_as first 18 x (x + 2) (omega arith) (omega arith) (omega arith) (omega arith) a.kept) (kept_then (kept_as first 18 x (x + 2) (omega arith) (omega (arith, n)) (omega arith) (omega arith) b.kept)
-            (kept_as first 18 x (x + 2) (omega (arith, n)) (omega arith) (omega arith) (omega arith) d.kept));
+      let above = holds_kept m.r m.c m.first 2 x (x + 2) 2 (4 * m.down + 2) x (x + 2) (omega arith) (λ y z g h k l u o p q. absurd (omega arith)) a.holds b.kept in record {
+        holds = three_rows x (x + 2) (holds_kept m.r m.c m.first 2 x (x + 2) (4 * m.down + 2) 16 x (x + 2) (omega arith) (λ y z g h k l u o p q. absurd (omega (arith, n))) above d.kept)
+            (holds_kept m.r m.c 2 (4 * m.down + 2) x (x + 2) (4 * m.down + 2) 16 x (x + 2) (omega arith) (λ y z g h k l u o p q. absurd (omega arith)) b.holds d.kept) d.holds;
+        kept = kept_then (kept_as m.first 18 x (x + 2) (omega arith) (omega arith) (omega arith) (omega arith) a.kept) (kept_then (kept_as m.first 18 x (x + 2) (omega arith) (omega (arith, n)) (omega arith) (omega arith) b.kept)
+            (kept_as m.first 18 x (x + 2) (omega (arith, n)) (omega arith) (omega arith) (omega arith) d.kept));
       }

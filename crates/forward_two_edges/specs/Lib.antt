@@ -1,2 +1,3 @@
 pub mod Unfiltered
+pub mod Rows
 pub mod Strip

@@ -1,9 +1,8 @@
 -- The strip: 18 rows of 72 numbers, of which the first is the unfiltered sample of row 16 r, column 16 c of a picture. Which of its numbers are there already.
-use Rattle.std.specs.Prelude.{ℕ, ◌+◌, ◌*◌, ◌≤◌, ◌<◌, ◌≡◌, List, ◌⊎◌, length, ℤ}
+use Rattle.std.specs.Prelude.{ℕ, ◌+◌, ◌*◌, ◌≤◌, ◌<◌, ◌≡◌, List, length, ℤ}
 use Rattle.lifting.specs.Program.{at, get, undo}
 use Rattle.figures.specs.Figures.{four_filter}
 use Rattle.transform.specs.Level.{cell, strip as line}
-use Rattle.picture.specs.Sizes.{macroblocks, Sized}
 use Rattle.picture.specs.declared.size.Size.{Size}
 use Rattle.forward_two_edges.specs.declared.place.Place.{Place}
 use Rattle.forward_two_edges.specs.Unfiltered.{unfiltered}
@@ -17,19 +16,6 @@ pub record Holds (size : Size) (samples : List ℤ) (r c top bottom left right :
 pub record Kept (top bottom left right : ℕ) (old new : List ℤ) : Type 0 where
   pub len : length new ≡ length old
   pub same : (y x : ℕ) → x < 72 → (top ≤ y → y < bottom → left ≤ x → x < right → ⊥) → at new (72 * y + x) ≡ at old (72 * y + x)
-
--- a macroblock of the picture, its samples and a strip
-pub record Given (size : Size) (r c : ℕ) (samples strip : List ℤ) : Type 0 where
-  pub sized : Sized size
-  pub below : r < size.height.0
-  pub beside : c < size.width.0
-  pub of-samples : length samples ≡ 256 * macroblocks size
-  pub of-strip : length strip ≡ 1296
-
--- macroblock row r: its first row that no row above has made, and its windows down
-pub record Rows (size : Size) (r first down : ℕ) : Type 0 where
-  pub top : ((first ≡ 0) × (r ≡ 0)) ⊎ ((first ≡ 2) × (0 < r))
-  pub bottom : ((down ≡ 3) × (r + 1 ≡ size.height.0)) ⊎ ((down ≡ 4) × (r + 1 < size.height.0))
 
 -- row y, column x of the strip, in the samples and in the strip
 abbrev pub Stands : Size → ℕ → ℕ → ℕ → ℕ → Place → Type 0

@@ -101,19 +101,6 @@ block-parked i x strip high a x1 x2 x3 room e1 e2 e3 f e =
     let p = placed_next i 2 g (i + 2) refl (omega arith) (e3 ∙ ap (at strip) (omega arith)) (placed_next i 1 g (i + 1) refl (omega arith) (e2 ∙ ap (at strip) (omega arith)) (placed_next i 0 g i (omega arith) (omega arith) (e1 ∙ ap (at strip) (omega arith)) (placed_none i g high))) in
     placed_after i 3 3 4 7 g (at a) g (omega arith) (omega arith) refl (λ k h. refl) (λ k h. f k h ∙ ap (at strip) (omega arith)) p (four_placed (i + 3) a _ (omega (arith, p.len)) e)
 
-pub rest-none : (i b : ℕ) (strip v : List ℤ) → RestParked i b 0 strip v v
-rest-none i b strip v = record { len = refl; own = λ k j h l. absurd (omega arith); others = λ a h. refl }
-
-pub rest_more : (i b n : ℕ) {strip old mid new : List ℤ} → n < 4 → RestParked i b n strip old mid
-    → Placed (i + 15 * n) 7 (λ j. at strip (72 * (16 + (j + 1) / 4) + (16 * b + 4 * n) + (j + 1) % 4)) mid new → RestParked i b (n + 1) strip old new
-rest_more i b n {strip} {old} {mid} {new} low p q = record {
-  len = q.len ∙ p.len;
-  own = λ k j h l. by_cases (ℕ_discrete k n)
-      (λ e. ap (λ (a : ℕ). at new (i + 15 * a + j)) e ∙ q.own j l ∙ ap (at strip) (omega (arith, e)))
-      (λ o. q.below (i + 15 * k + j) (omega (arith, o)) ∙ p.own k j (omega (arith, o)) l);
-  others = λ a h. by_cases (dec_lt a (i + 15 * n)) (λ l. q.below a l) (λ l. by_cases (dec_lt a (i + 15 * n + 7)) (λ o. absurd (h (omega (arith, l)) (omega (arith, o)))) (λ o. q.above a (omega (arith, o)))) ∙ p.others a h;
-}
-
 -- one more macroblock
 pub macroblocks-parked : (m n : ℕ) (dc low high dc' low' high' : List ℤ) {strip : List ℤ} {blocks : ℕ → List ℤ} → Parked m n strip blocks (block_of dc low high)
     → ZerosParked (m + n) n strip (block_in dc low) (block_in dc' low') → RestParked (240 * (m + n)) n 4 strip high high' → Parked m (n + 1) strip blocks (block_of dc' low' high')

@@ -12,7 +12,7 @@ use Rattle.picture.specs.Sizes.{macroblocks}
 use Rattle.picture.specs.declared.size.Size.{Size}
 use Rattle.forward_four_windows.specs.Windows.{window_at, Windows}
 use Rattle.forward_two_edges.specs.Unfiltered.{unfiltered}
-use Rattle.forward_two_edges.specs.Strip.{Holds, Kept}
+use Rattle.forward_two_edges.specs.Strip.{Holds}
 use Rattle.forward_two_edges.proofs.Numbers.{window-at}
 
 module _ (size : Size) (samples : List ℤ) (len : length samples ≡ 256 * macroblocks size) (r c v l a i : ℕ) {old new : List ℤ} (low : 4 * r + v + 1 < 4 * size.height.0)
@@ -37,6 +37,3 @@ module _ (size : Size) (samples : List ℤ) (len : length samples ≡ 256 * macr
         ∙ sym (window-at (4 * W) (4 * H) samples (len ∙ omega arith) j u n (omega arith) (omega arith) (omega arith))
         ∙ ap₂ (λ (z w : ℕ). at (undo (filters (4 * W) (4 * H)) samples) (cell (4 * W) z w)) (omega arith) (omega arith);
   }
-
-  pub windows_keep : Kept (4 * v + 2) (4 * v + 6) (4 * l + 2) (4 * l + 18) old new
-  windows_keep = record { len = d.len; same = λ y x h o. d.others (72 * y + x) (λ s b e f q. o (omega (arith, q)) (omega (arith, q)) (omega (arith, q)) (omega (arith, q))) }

@@ -3,7 +3,7 @@ use Prim.Native.Nat.{ℕ, ◌+◌, ◌<◌}
 use mathlib.Core.Path.{◌≡◌, refl, ◌∙◌, ap}
 use mathlib.Core.List.{List, [], ◌∷◌, ◌++◌}
 use native.Mathlib.Omega.{arith}
-use lib.ListN.{get_or, set}
+use lib.ListN.{get_or}
 use lib.IntN.{ℤ}
 use lib.Signed.{mag}
 use mir.Syntax.{w32}
@@ -16,16 +16,6 @@ use Rattle.figures.proofs.Parts.{kept}
 use Rattle.transform.specs.Level.{strip, square}
 use Rattle.picture.specs.Table.{table}
 use Rattle.transform.specs.Grids.{coefficients}
-
-pub four_read : (v : List ℤ) (i j k l : ℕ) → mag (at v i) < 2147483648 → mag (at v j) < 2147483648 → mag (at v k) < 2147483648 → mag (at v l) < 2147483648
-    → kept (at v i) ∷ kept (at v j) ∷ kept (at v k) ∷ kept (at v l) ∷ [] ≡ get (i ∷ j ∷ k ∷ l ∷ []) v
-unfolding get
-four_read v i j k l a b c d = rw (back a, back b, back c, back d)
-
-pub four_stored : (v : List ℤ) (i j k l : ℕ) (a b c d : ℤ) → mag a < 2147483648 → mag b < 2147483648 → mag c < 2147483648 → mag d < 2147483648
-    → set (set (set (set v i (kept a)) j (kept b)) k (kept c)) l (kept d) ≡ put (i ∷ j ∷ k ∷ l ∷ []) (a ∷ b ∷ c ∷ d ∷ []) v
-unfolding put
-four_stored v i j k l a b c d e f g h = rw (back e, back f, back g, back h)
 
 rows : {x x' y y' z z' w w' : List ℤ} → x ≡ x' → y ≡ y' → z ≡ z' → w ≡ w' → x ++ (y ++ (z ++ w)) ≡ x' ++ (y' ++ (z' ++ w'))
 rows a b c d = rw (a, b, c, d)
@@ -69,14 +59,3 @@ square_stored v w i m a b c d = rw (d, c, b, a)
 pub used : (o : Operator) (s : Program) (ps : List ℕ) (v x y : List ℤ) {u : List ℤ} → x ≡ get ps v → y ≡ run s x → u ≡ put ps y v → u ≡ run (apply o s ps end) v
 unfolding run_by
 used o s ps v x y a b c = rw (c, b, a)
-
--- the same where the operator takes its four numbers one by one and answers with four fields
-pub four_used : (o : Operator) (s : Program) (ps : List ℕ) (v x : List ℤ) {a b c d : ℤ} {u : List ℤ} {X Y Z W O : Type 0}
-    → four x ≡ get ps v → mag (at x 0) < 2147483648 → mag (at x 1) < 2147483648 → mag (at x 2) < 2147483648 → mag (at x 3) < 2147483648
-    → (X × (mag a < 2147483648)) × ((Y × (mag b < 2147483648)) × ((Z × (mag c < 2147483648)) × ((W × (mag d < 2147483648)) × O)))
-    → a ∷ b ∷ c ∷ d ∷ [] ≡ run s (kept (at x 0) ∷ kept (at x 1) ∷ kept (at x 2) ∷ kept (at x 3) ∷ [])
-    → u ≡ put ps (kept a ∷ kept b ∷ kept c ∷ kept d ∷ []) v
-    → u ≡ run (apply o s ps end) v
-four_used o s ps v x e f0 f1 f2 f3 g h k =
-    used o s ps v (four x) _ e (rw (back f0, back f1, back f2, back f3) at h)
-    (rw (back g.0.1, back g.1.0.1, back g.1.1.0.1, back g.1.1.1.0.1) at k)

@@ -3,7 +3,7 @@ use Prim.Native.Nat.{ℕ, zero, suc, ◌+◌, ◌*◌, ◌<◌}
 use mathlib.Core.Path.{◌≡◌, ◌∙◌, ap}
 use mathlib.Core.List.{List, [], ◌∷◌}
 use native.Mathlib.Omega.{arith}
-use lib.ListN.{length}
+use lib.ListN.{length, get_or}
 use lib.IntN.{ℤ}
 use Rattle.lifting.specs.Program.{at, get, run, run_by}
 use Rattle.lifting.proofs.Reverse.{length-put}
@@ -13,7 +13,7 @@ use Rattle.figures.proofs.Parts.{place}
 use Rattle.transform.specs.Level.{strip, square}
 use Rattle.picture.specs.Table.{table}
 use Rattle.transform.specs.Grids.{coefficients}
-use Rattle.lanes.specs.Lanes.{InLanes, Placed}
+use Rattle.lanes.specs.Lanes.{rows_at, InLanes, Placed}
 use Rattle.lanes.proofs.Rows.{four-numbers, joined}
 use Rattle.inverse_two.specs.Blocks.{block_from, block_in_lane, FourBlocks}
 
@@ -24,11 +24,12 @@ length-core v = simp length-put
 top-row : {x x' y y' z z' w w' : ℤ} → x ≡ x' → y ≡ y' → z ≡ z' → w ≡ w' → x ∷ y ∷ z ∷ w ∷ [] ≡ x' ∷ y' ∷ z' ∷ w' ∷ []
 top-row a b c d = rw (a, b, c, d)
 
--- a block put together from its coefficient 0 and four rows
-pub block_read : (z z' x y w : ℤ) (p q r s a b c d : List ℤ) (i : ℕ) → z ≡ z' → x ≡ at p 0 → y ≡ at p 1 → w ≡ at p 2 → four p ≡ get (strip 1 i) a → four q ≡ get (strip 1 i) b → four r ≡ get (strip 1 i) c → four s ≡ get (strip 1 i) d
-    → flat ((z ∷ x ∷ y ∷ w ∷ []) ∷ q ∷ r ∷ s ∷ []) ≡ block_from z' a b c d i
+-- a block put together from its coefficient 0 and the four rows m of a lane
+pub block_read : (z z' x y w : ℤ) (m : List (List ℤ)) (a b c d : List ℤ) (i : ℕ) → z ≡ z' → x ≡ at (get_or m 0 []) 0 → y ≡ at (get_or m 0 []) 1 → w ≡ at (get_or m 0 []) 2 → flat m ≡ rows_at a b c d i
+    → flat ((z ∷ x ∷ y ∷ w ∷ []) ∷ get_or m 1 [] ∷ get_or m 2 [] ∷ get_or m 3 [] ∷ []) ≡ block_from z' a b c d i
 unfolding flat get
-block_read z z' x y w p q r s a b c d i o e f g h k l m = joined (top-row o (e ∙ place 0 h) (f ∙ place 1 h) (g ∙ place 2 h)) k l m
+block_read z z' x y w m a b c d i o e f g h =
+    rw (o, e, f, g) (ap (λ l. z' ∷ at l 0 ∷ at l 1 ∷ at l 2 ∷ at l 4 ∷ at l 5 ∷ at l 6 ∷ at l 7 ∷ at l 8 ∷ at l 9 ∷ at l 10 ∷ at l 11 ∷ at l 12 ∷ at l 13 ∷ at l 14 ∷ at l 15 ∷ []) h)
 
 -- the numbers of level one, and the high-pass numbers of each block
 module _ (grid high zeros : List ℤ) {a b c d : List ℤ} (m from : ℕ) (read : four zeros ≡ get (strip 1 m) grid)

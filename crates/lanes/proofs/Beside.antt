@@ -14,29 +14,36 @@ use Rattle.lifting.specs.Valid.{places}
 use Rattle.lifting.proofs.Reverse.{get-put, length-put}
 use Rattle.lifting.proofs.Between.{All, all_map}
 use Rattle.lifting.proofs.Locality.{agree_refl, get-same, put_keeps}
-use Rattle.figures.specs.Block.{four}
+use Rattle.figures.specs.Block.{four, flat}
 use Rattle.transform.specs.Level.{strip, square}
 use Rattle.transform.proofs.Levels.{rising_places, square-places}
 use Rattle.transform.proofs.Cells.{all-strip, all-square}
-use Rattle.lanes.specs.Lanes.{InLanes}
+use Rattle.lanes.specs.Lanes.{InLanes, SquareBy}
 
 -- the first n pieces of `out` hold F 0, .., F (n - 1)
 abbrev pub Pieces : (ℕ → List ℕ) → (ℕ → List ℤ) → ℕ → List ℤ → Type 0
 Pieces piece F n out = (l : ℕ) → l < n → get (piece l) out ≡ F l
 
--- `part` tells the piece of a place
+-- what is put in a piece is there, and the other pieces stay: `part` tells the piece of a place
+piece_own : (piece : List ℕ) (out x u : List ℤ) → T (places (length out) piece) → length x ≡ length piece → u ≡ put piece x out → get piece u ≡ x
+piece_own piece out x u room long f = ap (get piece) f ∙ get-put piece x out room long refl
+
+piece_kept : (piece : ℕ → List ℕ) (part : ℕ → ℕ) (l n : ℕ) (out x u : List ℤ) → All (λ i. part i ≡ l) (piece l) → All (λ i. part i ≡ n) (piece n) → ¬ (l ≡ n) → u ≡ put (piece n) x out
+    → get (piece l) u ≡ get (piece l) out
+piece_kept piece part l n out x u inside other o f =
+    ap (get (piece l)) f
+    ∙ get-same (λ i. part i ≡ l) (piece l) inside
+    (put_keeps (λ i. part i ≡ l) (piece n) x (all_map {P = λ i. part i ≡ n} {Q = λ i. ¬ (part i ≡ l)} (piece n) (λ i a b. o (sym b ∙ a)) other) agree_refl)
+
 pieces_more : (piece : ℕ → List ℕ) (part : ℕ → ℕ) (F : ℕ → List ℤ) (n : ℕ) (out x u : List ℤ) → ((l : ℕ) → l < n + 1 → All (λ i. part i ≡ l) (piece l)) → T (places (length out) (piece n))
     → x ≡ F n → length x ≡ length (piece n) → u ≡ put (piece n) x out → Pieces piece F n out → Pieces piece F (n + 1) u
 pieces_more piece part F n out x u inside room e long f h l k = by_cases (ℕ_discrete l n) here (λ o. there o ∙ h l (omega (arith, o)))
   where
     here : l ≡ n → get (piece l) u ≡ F l
-    here q = rw q (ap (get (piece n)) f ∙ get-put (piece n) x out room long refl ∙ e)
+    here q = rw q (piece_own (piece n) out x u room long f ∙ e)
 
-    there : (l ≡ n → ⊥) → get (piece l) u ≡ get (piece l) out
-    there o =
-        ap (get (piece l)) f
-        ∙ get-same (λ i. part i ≡ l) (piece l) (inside l k)
-        (put_keeps (λ i. part i ≡ l) (piece n) x (all_map {P = λ i. part i ≡ n} {Q = λ i. ¬ (part i ≡ l)} (piece n) (λ i a b. o (sym b ∙ a)) (inside n (omega arith))) agree_refl)
+    there : ¬ (l ≡ n) → get (piece l) u ≡ get (piece l) out
+    there o = piece_kept piece part l n out x u (inside l k) (inside n (omega arith)) o f
 
 -- ---- squares
 
@@ -54,6 +61,18 @@ pub beside_more : (F : ℕ → List ℤ) (n : ℕ) (out x u : List ℤ) → n < 
 unfolding square
 beside_more F n out x u few long e sixteen f h =
     pieces_more (λ l. square 16 (4 * l)) (λ i. i % 16 / 4) F n out x u (λ l k. square_in_lem l (omega arith)) (square-places 16 (4 * n) (length out) (omega arith) (omega arith)) e (ap length e ∙ sixteen) f h
+
+pub square_own : (n : ℕ) (out x u : List ℤ) → n < 4 → length out ≡ 64 → length x ≡ 16 → u ≡ put (square 16 (4 * n)) x out → get (square 16 (4 * n)) u ≡ x
+unfolding square
+square_own n out x u few long sixteen f = piece_own (square 16 (4 * n)) out x u (square-places 16 (4 * n) (length out) (omega arith) (omega arith)) sixteen f
+
+pub square_kept : (l n : ℕ) (out x u : List ℤ) → l < 4 → n < 4 → ¬ (l ≡ n) → u ≡ put (square 16 (4 * n)) x out → get (square 16 (4 * l)) u ≡ get (square 16 (4 * l)) out
+square_kept l n out x u h k o f = piece_kept (λ l. square 16 (4 * l)) (λ i. i % 16 / 4) l n out x u (square_in_lem l h) (square_in_lem n k) o f
+
+-- where R says that what comes of a square is g of it
+pub squares_by : {R : List (List ℤ) → List (List ℤ) → Type 0} {grid : List ℤ} {w i : ℕ} {out : List ℤ} (g : List ℤ → List ℤ) → ((b c : List (List ℤ)) → R b c → flat c ≡ g (flat b))
+    → ((l : ℕ) → l < 4 → SquareBy R grid w i out l) → (l : ℕ) → l < 4 → get (square 16 (4 * l)) out ≡ g (get (square w (i + 4 * l)) grid)
+squares_by g says each l h = let s = each l h in s.stored ∙ says s.block s.made s.by ∙ ap g s.read
 
 -- ---- lanes of a row
 

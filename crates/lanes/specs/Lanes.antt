@@ -1,6 +1,7 @@
 -- Four squares side by side as four lanes: each row of the squares in a list of sixteen numbers, of which lane l has the four from 12 - 4 l on.
 use Rattle.std.specs.Prelude.{ℕ, ◌+◌, ◌-◌, ◌*◌, ◌≤◌, ◌<◌, ◌≡◌, List, ◌++◌, length, ℤ}
 use Rattle.lifting.specs.Program.{at, get}
+use Rattle.figures.specs.Block.{flat}
 use Rattle.transform.specs.Level.{strip, square}
 
 -- the rows' four numbers from place i on, one row after another
@@ -15,6 +16,14 @@ lane_of a b c d l = rows_at a b c d (12 - 4 * l)
 pub record InLanes (s : List ℤ) (step from : ℕ) (row : List ℤ) : Type 0 where
   pub len : length row ≡ 16
   pub own : (l : ℕ) → l < 4 → get (strip 1 (12 - 4 * l)) row ≡ get (strip 1 (from + step * l)) s
+
+-- square l of four, the first at `first` of a grid of w columns, goes by R to square l of 16 columns in `out`
+pub record SquareBy (R : List (List ℤ) → List (List ℤ) → Type 0) (grid : List ℤ) (w first : ℕ) (out : List ℤ) (l : ℕ) : Type 0 where
+  pub block : List (List ℤ)
+  pub made : List (List ℤ)
+  pub by : R block made
+  pub read : flat block ≡ get (square w (first + 4 * l)) grid
+  pub stored : get (square 16 (4 * l)) out ≡ flat made
 
 -- v has n numbers of s, from `from` on, at `to` and after it, and is otherwise the old one
 pub record Moved (s : List ℤ) (from n : ℕ) (old : List ℤ) (to : ℕ) (v : List ℤ) : Type 0 where

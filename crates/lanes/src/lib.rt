@@ -1,34 +1,34 @@
 // Four squares side by side as four lanes, for loops over the lanes, and what comes of them moved out by rows of sixteen.
 // Each row of the squares is held in a local array of sixteen numbers, lane 0's four last and lane 3's first. So the compiler reads fours, turns them in
-// registers, and the arrays vanish. Where four more numbers of the array follow those of lane 0, it reads across them, and the array stays in memory.
+// registers, and the arrays vanish. Where four more numbers follow those of lane 0, as in one array or struct of all four rows, it reads across them, and
+// the rows stay in memory.
 #![tactic(auto)]
 
-ghost use Rattle.std.specs.Prelude.{◌≡◌, ◌+◌, ◌<◌, ◌≤◌, length};
+ghost use Rattle.std.specs.Prelude.{◌≡◌, ℕ, ◌+◌, ◌*◌, ◌<◌, ◌≤◌, length};
 ghost use Rattle.figures.specs.Block.{flat};
-ghost use Rattle.lanes.specs.Lanes.{rows_at, InLanes, Moved, Placed};
+ghost use Rattle.lanes.specs.Lanes.{lane_of, InLanes, SquareBy, Moved, Placed};
 
-use grid::{get_four, put_four};
+use grid::{get_four, put_four, put_square};
 
 // Four numbers for each lane: those of lane l are the four from `from` + step * l on.
-pub fn hold(s: &[i32], step: usize, from: usize, row: &mut [i32])
-    requires step_in_bounds { from + step + step + step + 3 < length s.now }
-    requires row_len { length row.old ≡ 16 }
-    ensures { InLanes s.now step from row.new }
+pub fn row(s: &[i32], step: usize, from: usize) -> [i32; 16]
+    requires { from + step + step + step + 3 < length s.now }
+    ensures { InLanes s.now step from result }
 {
-    let second = from + step;
-    let third = second + step;
-    let fourth = third + step;
-    put_four(row, 1, 12, get_four(s, 1, from));
-    put_four(row, 1, 8, get_four(s, 1, second));
-    put_four(row, 1, 4, get_four(s, 1, third));
-    put_four(row, 1, 0, get_four(s, 1, fourth));
+    let mut row = [0; 16];
+    put_four(&mut row, 1, 12, get_four(s, 1, from));
+    put_four(&mut row, 1, 8, get_four(s, 1, from + step));
+    put_four(&mut row, 1, 4, get_four(s, 1, from + step + step));
+    put_four(&mut row, 1, 0, get_four(s, 1, from + step + step + step));
+    row
 }
 
-// The square of the lane whose numbers stand from `at` on in each row.
-pub fn lane(a: &[i32], b: &[i32], c: &[i32], d: &[i32], at: usize) -> [[i32; 4]; 4]
-    requires { (at + 3 < length a.now) × (at + 3 < length b.now) × (at + 3 < length c.now) × (at + 3 < length d.now) }
-    ensures { flat result ≡ rows_at a.now b.now c.now d.now at }
+// The square of lane l.
+pub fn lane(a: &[i32; 16], b: &[i32; 16], c: &[i32; 16], d: &[i32; 16], l: usize) -> [[i32; 4]; 4]
+    requires { l < 4 }
+    ensures { flat result ≡ lane_of a.now b.now c.now d.now l }
 {
+    let at = 12 - 4 * l;
     [
         get_four(a, 1, at),
         get_four(b, 1, at),
@@ -37,9 +37,31 @@ pub fn lane(a: &[i32], b: &[i32], c: &[i32], d: &[i32], at: usize) -> [[i32; 4];
     ]
 }
 
+// Four squares of a grid of w columns, side by side, the first at `at`, each put through f. The four results are side by side too, in rows of sixteen.
+pub fn each_square<F: Fn([[i32; 4]; 4]) -> [[i32; 4]; 4]>(
+    grid: &[i32],
+    w: usize,
+    at: usize,
+    f: F,
+) -> [i32; 64]
+    requires w_in_bounds { at + w + w + w + 15 < length grid.now }
+    requires callable { F.IsAlwaysCallable f }
+    ensures { (l : ℕ) → l < 4 → SquareBy (F.post f) grid.now w at result l }
+{
+    let a = row(grid, 4, at);
+    let b = row(grid, 4, at + w);
+    let c = row(grid, 4, at + w + w);
+    let d = row(grid, 4, at + w + w + w);
+    let mut out = [0; 64];
+    for l in 0..4 {
+        put_square(&mut out, 16, 4 * l, f(lane(&a, &b, &c, &d, l)));
+    }
+    out
+}
+
 // Sixteen numbers, by fours: four are read before four are stored, so that the compiler asks nothing of the two slices.
-pub fn move_row(s: &[i32], from: usize, out: &mut [i32], to: usize)
-    requires from_in_bounds { from + 15 < length s.now }
+pub fn move_row(s: &[i32; 64], from: usize, out: &mut [i32], to: usize)
+    requires from_in_bounds { from + 15 < 64 }
     requires to_in_bounds { to + 15 < length out.old }
     ensures { Moved s.now from 16 out.old to out.new }
 {
@@ -50,16 +72,12 @@ pub fn move_row(s: &[i32], from: usize, out: &mut [i32], to: usize)
 }
 
 // Four squares side by side, one row of sixteen after another, to the places from `at` on of a grid of w columns.
-pub fn move_squares(s: &[i32], grid: &mut [i32], w: usize, at: usize)
-    requires s_len { length s.now ≡ 64 }
-    requires le_w { (16 ≤ w) × (at + w + w + w + 15 < length grid.old) }
+pub fn move_squares(s: &[i32; 64], grid: &mut [i32], w: usize, at: usize)
+    requires { (16 ≤ w) × (at + w + w + w + 15 < length grid.old) }
     ensures { Placed s.now grid.old w at grid.new }
 {
-    let second = at + w;
-    let third = second + w;
-    let fourth = third + w;
     move_row(s, 0, grid, at);
-    move_row(s, 16, grid, second);
-    move_row(s, 32, grid, third);
-    move_row(s, 48, grid, fourth);
+    move_row(s, 16, grid, at + w);
+    move_row(s, 32, grid, at + w + w);
+    move_row(s, 48, grid, at + w + w + w);
 }

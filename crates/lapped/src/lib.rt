@@ -16,11 +16,14 @@ ghost use Rattle.tries.specs.Tries.{tried_planes, tried_samples, passes};
 ghost use Rattle.find_step.specs.FindStep.{IndexBeside, find_number};
 
 use bands::steps::Steps;
-use find_step::{Found, find_step};
+use find_step::find_step;
+use find_step::found::Found;
 use forecast::{Work, forecast};
 use forward::forward;
 use inverse::{inverse, quarter_view};
 use picture::answer::Answer;
+use picture::planes::Planes;
+use picture::refusals::number_of;
 use picture::size::Size;
 use plane_file::header::{Header, read_header};
 use plane_file::load::load;
@@ -42,7 +45,7 @@ pub fn lapped_inverse(
     ensures samples_after { samples.new ≡
         settled result.number (samples_of mode size (planes dc.now low.now high.now)) samples.old }
 {
-    inverse(mode, size, dc, low, high, samples)
+    inverse(mode, size, &Planes { dc, low, high }, samples).into()
 }
 
 pub fn lapped_quarter(mode: u32, size: Size, dc: &[i32], low: &[i32], view: &mut [i32]) -> Answer
@@ -50,7 +53,7 @@ pub fn lapped_quarter(mode: u32, size: Size, dc: &[i32], low: &[i32], view: &mut
     ensures wrapped_value { result.wrapped ≡ settled result.number (quarter_wraps mode size dc.now low.now) false }
     ensures view_after { view.new ≡ settled result.number (quarter mode size dc.now low.now) view.old }
 {
-    quarter_view(mode, size, dc, low, view)
+    quarter_view(mode, size, dc, low, view).into()
 }
 
 pub fn lapped_forward(
@@ -66,7 +69,7 @@ pub fn lapped_forward(
     ensures high_after { planes dc.new low.new high.new ≡
         settled result.number (planes_of mode size samples.now) (planes dc.old low.old high.old) }
 {
-    forward(mode, size, samples, dc, low, high)
+    forward(mode, size, samples, dc, low, high).into()
 }
 
 pub fn lapped_forecast(mode: u32, size: Size) -> Work
@@ -100,7 +103,7 @@ pub fn lapped_save(
     ensures value { result ≡ save_number mode size (planes dc.now low.now high.now) bytes.old }
     ensures bytes_after { bytes.new ≡ saved mode size (planes dc.now low.now high.now) bytes.old }
 {
-    save(mode, size, dc, low, high, bytes)
+    number_of(save(mode, size, &Planes { dc, low, high }, bytes))
 }
 
 pub fn lapped_step(index: u32) -> u32
@@ -126,17 +129,15 @@ pub fn lapped_quantise(
         settled result (quantised_planes steps (planes dc.now low.now high.now))
         (planes dc_levels.old low_levels.old high_levels.old) }
 {
-    quantise(
+    number_of(quantise(
         mode,
         size,
         steps,
-        dc,
-        low,
-        high,
+        &Planes { dc, low, high },
         dc_levels,
         low_levels,
         high_levels,
-    )
+    ))
 }
 
 pub fn lapped_restore(
@@ -156,17 +157,12 @@ pub fn lapped_restore(
         settled result (restored_planes steps (planes dc_levels.now low_levels.now high_levels.now))
         (planes dc.old low.old high.old) }
 {
-    restore(
-        mode,
-        size,
-        steps,
-        dc_levels,
-        low_levels,
-        high_levels,
-        dc,
-        low,
-        high,
-    )
+    let levels = Planes {
+        dc: dc_levels,
+        low: low_levels,
+        high: high_levels,
+    };
+    number_of(restore(mode, size, steps, &levels, dc, low, high))
 }
 
 pub fn lapped_find_step(
@@ -185,5 +181,5 @@ pub fn lapped_find_step(
         settled result.number (tried_planes mode size samples.now result.index) (planes dc.old low.old high.old) }
     ensures second_after { second.new ≡ settled result.number (tried_samples mode size samples.now result.index) second.old }
 {
-    find_step(mode, size, tolerance, samples, dc, low, high, second)
+    find_step(mode, size, tolerance, samples, dc, low, high, second).into()
 }

@@ -16,7 +16,7 @@ ghost use Rattle.tries.specs.Tries.{tried_planes, tried_samples, passes};
 ghost use Rattle.find_step.specs.FindStep.{IndexBeside, find_number};
 
 use bands::steps::Steps;
-use find_step::Found;
+use find_step::found::Found;
 use forecast::Work;
 use picture::answer::Answer;
 use picture::size::Size;

@@ -1,5 +1,5 @@
 -- Numbers of a row that are not large, and that are of 32 bits.
-use Rattle.std.specs.Prelude.{ℕ, ◌+◌, ◌*◌, ◌≤◌, ◌<◌, List, ℤ, nat_abs}
+use Rattle.std.specs.Prelude.{ℕ, ◌≤◌, ◌<◌, List, ℤ, nat_abs}
 use Rattle.std.proofs.Common.{SFits}
 use Rattle.std.specs.Int.{w32}
 use Rattle.lifting.specs.Program.{at}
@@ -11,10 +11,6 @@ AtMost B v a b = (i : ℕ) → a ≤ i → i < b → nat_abs (at v i) ≤ B
 -- none is above 2^25
 abbrev pub Small : List ℤ → ℕ → ℕ → Type 0
 Small v a b = AtMost 33554432 v a b
-
--- none of n numbers in each of k rows, of which the first begins at place a, and each next one w numbers after the one before
-abbrev pub SmallRows : List ℤ → ℕ → ℕ → ℕ → ℕ → Type 0
-SmallRows v w a k n = (i : ℕ) → i < k → Small v (a + i * w) (a + i * w + n)
 
 -- from place a up to place b, each number is in the signed 32-bit range
 abbrev pub Fit : List ℤ → ℕ → ℕ → Type 0

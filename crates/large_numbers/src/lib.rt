@@ -5,56 +5,78 @@ ghost use Rattle.std.specs.Prelude.{◌≡◌, false, ◌+◌, ◌*◌, ◌<◌,
 ghost use Rattle.lifting.specs.Row.{Row};
 ghost use Rattle.lifting.specs.Wrap.{low32};
 ghost use Rattle.lifting.specs.Wraps.{Within};
-ghost use Rattle.large_numbers.specs.Small.{AtMost, Small, SmallRows, Fit};
+ghost use Rattle.large_numbers.specs.Small.{AtMost, Small, Fit};
+
+use std::marker::Model;
+
+// A limit for magnitudes, of which twice as much fits 31 bits. Contracts see it as the plain number.
+#[derive(Clone, Copy)]
+pub struct Limit {
+    pub most: u32,
+}
+
+impl Model for Limit {
+    ghost use Rattle.std.specs.Prelude.{ℕ, ◌≤◌};
+
+    ghost Value = { ℕ };
+
+    ghost view = { λ limit. limit.most };
+
+    ghost invariant = { λ limit. limit.most ≤ 1073741824 };
+
+    ghost inverse = { λ most. record { most = most } };
+}
 
 // Up to this magnitude the numbers of a level make no sum of it wrap. A power of two, as the next is, so that marks can be joined by bits.
-pub const LEVEL_LIMIT: u32 = 33554432;
+pub const LEVEL_LIMIT: Limit = Limit { most: 33554432 };
 
 // Up to this one the sixteen numbers of a block or window make no sum of it wrap.
-pub const SQUARE_LIMIT: u32 = 134217728;
+pub const SQUARE_LIMIT: Limit = Limit { most: 134217728 };
 
-// x + limit as 32 bits without a sign: below 2 * limit only if x is at most the limit in magnitude. It compiles to one sum.
-fn mark(x: i32, limit: u32) -> u32
-    requires { limit ≤ 1073741824 }
-    ensures { result ≡ low32 (x +ℤ pos limit) }
-{
-    let s = (x as i64) + (limit as i64);
-    if s < 0 {
-        (s + 4294967296) as u32
-    } else {
-        s as u32
+impl Limit {
+    // x + limit as 32 bits without a sign: below twice the limit only if x is at most the limit in magnitude. It compiles to one sum.
+    fn mark(self, x: i32) -> u32
+        ensures { result ≡ low32 (x +ℤ pos self) }
+    {
+        x.cast_unsigned().wrapping_add(self.most)
+    }
+
+    // Whether a mark, or marks joined by bits, are of a number above the limit.
+    fn passed_by(self, marks: u32) -> bool
+        ensures { result ≡ false → marks < 2 * self }
+    {
+        2 * self.most <= marks
     }
 }
 
 // Whether one number is above the limit in magnitude.
-pub fn above(x: i32, limit: u32) -> bool
-    requires { limit ≤ 1073741824 }
+pub fn above(x: i32, limit: Limit) -> bool
     ensures { result ≡ false → nat_abs x ≤ limit }
 {
-    2 * limit <= mark(x, limit)
+    limit.passed_by(limit.mark(x))
 }
 
-// The marks of n numbers, from a place on, joined by bits, so that the walk goes by fours and its end is compared once: below 2 * limit only if none of the
-// numbers is above the limit in magnitude. Whoever has looked at a number knows that it is one of 32 bits.
-fn joined_marks(s: &[i32], from: usize, n: usize, limit: u32) -> u32
-    requires { (from + n ≤ length s.now) × (limit ≤ 1073741824) }
-    ensures at_most { result < 2 * limit → AtMost limit s.now from (from + n) }
-    ensures fit { Fit s.now from (from + n) }
+// The marks of numbers joined by bits, so that the walk goes by fours and its end is compared once: below twice the limit only if none of the numbers
+// is above the limit in magnitude. Whoever has looked at a number knows that it is one of 32 bits.
+fn joined_marks(s: &[i32], limit: Limit) -> u32
+    ensures at_most { result < 2 * limit → AtMost limit s.now 0 (length s.now) }
+    ensures fit { Fit s.now 0 (length s.now) }
 {
-    let mut joined = 0u32;
-    for i in 0..n {
-        joined = joined | mark(s[from + i], limit);
+    let mut joined = 0;
+    for x in s {
+        joined |= limit.mark(*x);
     }
     joined
 }
 
 // Whether one of n numbers, from a place on, is above the limit in magnitude. With a power of two for the limit the marks tell of no smaller number.
-pub fn some_above(s: &[i32], from: usize, n: usize, limit: u32) -> bool
-    requires { (from + n ≤ length s.now) × (limit ≤ 1073741824) }
+// The place is one of the whole slice, of which the contracts of those who ask speak.
+pub fn some_above(s: &[i32], from: usize, n: usize, limit: Limit) -> bool
+    requires { from + n ≤ length s.now }
     ensures at_most { result ≡ false → AtMost limit s.now from (from + n) }
     ensures fit { Fit s.now from (from + n) }
 {
-    2 * limit <= joined_marks(s, from, n, limit)
+    limit.passed_by(joined_marks(&s[from..from + n], limit))
 }
 
 // The same with a level's limit.
@@ -64,18 +86,6 @@ pub fn some_large(s: &[i32], from: usize, n: usize) -> bool
     ensures fit { Fit s.now from (from + n) }
 {
     some_above(s, from, n, LEVEL_LIMIT)
-}
-
-// Whether one of sixteen numbers in each of four rows is large. Each row begins w numbers after the one before. All marks are joined before they are compared.
-pub fn four_rows_large(s: &[i32], w: usize, at: usize) -> bool
-    requires { at + w + w + w + 15 < length s.now }
-    ensures { result ≡ false → SmallRows s.now w at 4 16 }
-{
-    let first = joined_marks(s, at, 16, LEVEL_LIMIT);
-    let second = joined_marks(s, at + w, 16, LEVEL_LIMIT);
-    let third = joined_marks(s, at + w + w, 16, LEVEL_LIMIT);
-    let fourth = joined_marks(s, at + w + w + w, 16, LEVEL_LIMIT);
-    2 * LEVEL_LIMIT <= first | second | third | fourth
 }
 
 pub fn any_large(s: &[i32]) -> bool

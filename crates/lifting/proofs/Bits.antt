@@ -1,12 +1,11 @@
--- Numbers as the bits that a local holds: by cases on how far a sum is out of the range, what `reduce` makes of it is `wrap` of it,
--- and what fits 32 bits is read back as it was.
+-- Numbers as the bits that a local holds: what fits 32 bits is read back as it was, and a sum of two such numbers fits 64.
 use Prim.Native.Nat.{ℕ, zero, suc, ◌+◌, ◌-◌, ◌≤◌, ◌<◌}
-use mathlib.Core.Path.{◌≡◌, refl, ap, ◌∙◌, sym, subst}
+use mathlib.Core.Path.{◌≡◌, ap, ◌∙◌}
 use mathlib.Core.Bool.{Bool, true, false}
 use mathlib.Core.Bool.{cond}
 use native.Mathlib.Omega.{arith}
-use lib.Dec.{T, ltb}
-use borrow.Author.Tests.{ltb-true, ltb-false}
+use lib.Dec.{ltb}
+use borrow.Author.Tests.{ltb-false}
 use lib.IntN.{ℤ, pos, negsuc, neg_ℤ, ◌+ℤ◌, ◌-ℤ◌}
 use lib.Signed.{mag, lt_z, shr_z, mag_shr}
 use mir.Val.{SFits, to_z, of_z}
@@ -28,24 +27,6 @@ fit_of s y f e = record { small = f; same = wrap-is s y f e }
 
 pub widen : {y : ℤ} → SFits w32 y → SFits w64 y
 widen f = record { sfits = omega (arith, f.sfits) }
-
-high' : (n : ℕ) (t : Bool) → ltb n 4294967296 ≡ t → n < 6442450944 → 2147483647 < n
-    → Fit (pos n) (cond t (negsuc (4294967296 - suc n)) (pos (n - 4294967296)))
-high' n true e h k = let q = ltb-true n 4294967296 e in fit_of _ _ (record { sfits = omega arith }) (omega arith)
-high' n false e h k = let q = ltb-false n 4294967296 e in fit_of _ _ (record { sfits = omega arith }) (omega arith)
-
-pub high : (s : ℤ) → mag s < 6442450944 → lt_z (pos 2147483647) s ≡ true → Fit s (s -ℤ pos 4294967296)
-high (pos n) h t = high' n (ltb n 4294967296) refl h (ltb-true _ _ t)
-high (negsuc n) h t = absurd (subst (λ (b : Bool). T b) (sym t) tt)
-
-low' : (n : ℕ) (t : Bool) → ltb 4294967296 (suc n) ≡ t → n < 6442450944 → 2147483647 < n
-    → Fit (negsuc n) (cond t (negsuc (suc n - 4294967297)) (pos (4294967296 - suc n)))
-low' n true e h k = let q = ltb-true 4294967296 (suc n) e in fit_of _ _ (record { sfits = omega arith }) (omega arith)
-low' n false e h k = let q = ltb-false 4294967296 (suc n) e in fit_of _ _ (record { sfits = omega arith }) (omega arith)
-
-pub low : (s : ℤ) → mag s < 6442450944 → lt_z s (negsuc 2147483647) ≡ true → Fit s (s +ℤ pos 4294967296)
-low (pos n) h t = absurd (subst (λ (b : Bool). T b) (sym t) tt)
-low (negsuc n) h t = low' n (ltb 4294967296 (suc n)) refl h (ltb-true _ _ t)
 
 pub mid : (s : ℤ) → lt_z (pos 2147483647) s ≡ false → lt_z s (negsuc 2147483647) ≡ false → Fit s s
 mid (pos n) t u = let q = ltb-false 2147483647 n t in fit_of _ _ (record { sfits = omega arith }) (omega arith)
@@ -83,9 +64,6 @@ pub record Sum (z : ℤ) : Type 0 where
 
 pub to64 : {z : ℤ} → Sum z → SFits w64 z
 to64 n = record { sfits = omega (arith, n.near) }
-
-pub near_held : (z : ℤ) → Sum z → mag (to_z w64 (of_z w64 z)) < 6442450944
-near_held z n = rw (to_z-of_z w64 z (to64 n)) n.near
 
 pub add-near : (a b : ℤ) → SFits w32 a → SFits w32 b → Sum (a +ℤ b)
 add-near a b f g = record { near = omega (arith, mag-add a b, f.sfits, g.sfits) }

@@ -1,13 +1,14 @@
 -- Laws of `wrap`. Everything goes through the remainder, `low32`, which is a natural number, so that omega can do the rest.
 use Prim.Native.Nat.{ℕ, zero, suc, ◌+◌, ◌-◌, ◌%◌, ◌<◌}
-use mathlib.Core.Path.{◌≡◌, refl, ◌∙◌, ap}
+use mathlib.Core.Path.{◌≡◌, refl, ◌∙◌, ap, sym}
 use mathlib.Core.Bool.{Bool, true, false, not, cond}
 use native.Mathlib.Omega.{arith}
 use lib.Dec.{T, ltb, ltb→lt, nltb→le}
 use lib.IntN.{ℤ, pos, negsuc, neg_ℤ, sub_ℕ, one, suc_ℤ-*ℤ, *ℤ_comm, *ℤ-one, ◌+ℤ◌, ◌-ℤ◌, ◌*ℤ◌}
-use mir.Val.{to_z, SFits, sel}
+use mir.Val.{to_z, of_z, SFits, sel}
 use mir.Syntax.{w32}
 use mir.Facts.{sfits_to_z, to_z_pos, to_z-neg}
+use Rattle.std.specs.Int.{int_wrapping_add, int_wrapping_sub}
 use Rattle.lifting.specs.Wrap.{low32, wrap}
 
 low_lt : (z : ℤ) → low32 z < 4294967296
@@ -83,3 +84,18 @@ neg-neg {a} f = wrap-same _ _ (simp (low-wrap, low-neg) (omega (arith, low_lt a)
 
 pub three : (a : ℤ) → wrap (wrap (a +ℤ a) +ℤ a) ≡ wrap (pos 3 *ℤ a)
 three a = wrap-same _ _ (simp (three_times, low-add, low-wrap) (omega arith))
+
+-- the bits of a number are its remainder
+bits_low : (z : ℤ) → SFits w32 z → of_z w32 z ≡ low32 z
+bits_low (pos n) f = let h = f.sfits in omega arith
+bits_low (negsuc n) f = let h = f.sfits in omega arith
+
+-- what `wrapping_add` and `wrapping_sub` make of two numbers
+module _ {a b : ℤ} (f : SFits w32 a) (g : SFits w32 b) where
+  pub added : int_wrapping_add w32 a b ≡ wrap (a +ℤ b)
+  unfolding wrap
+  added = ap (to_z w32) (rw (bits_low a f, bits_low b g) (sym (low-add a b)))
+
+  pub subtracted : int_wrapping_sub w32 a b ≡ wrap (a -ℤ b)
+  unfolding wrap
+  subtracted = ap (to_z w32) (rw (bits_low a f, bits_low b g) (omega (arith, low-add a (neg_ℤ b), low-neg b, low_lt b)))

@@ -6,9 +6,10 @@ ghost use Rattle.lifting.specs.Wraps.{changes};
 
 use crate::{add, sub};
 
+// A value, with whether a reduction changed a number on the way to it
 #[derive(Clone, Copy)]
-pub struct Told {
-    pub value: i32,
+pub struct Told<T> {
+    pub value: T,
     pub wrapped: bool,
 }
 
@@ -35,8 +36,9 @@ fn difference_wraps(a: i32, b: i32) -> bool
     outside((a as i64) - (b as i64))
 }
 
-// a + b. The sum is formed a second time for the flag: value and flag of one sum would keep the loops from becoming vectors.
-pub fn add_told(tell: bool, a: i32, b: i32) -> Told
+// a + b. The sum is formed a second time, in 64 bits, for the flag: value and flag of one sum would keep the loops from becoming vectors. So would the
+// flag of `overflowing_add`, which is cheap enough for the compiler to make it where nobody asks.
+pub fn add_told(tell: bool, a: i32, b: i32) -> Told<i32>
     ensures value { result.value ≡ wrap (a +ℤ b) }
     ensures told { result.wrapped ≡ tell && changes (a +ℤ b) }
 {
@@ -46,7 +48,7 @@ pub fn add_told(tell: bool, a: i32, b: i32) -> Told
 }
 
 // a - b
-pub fn sub_told(tell: bool, a: i32, b: i32) -> Told
+pub fn sub_told(tell: bool, a: i32, b: i32) -> Told<i32>
     ensures value { result.value ≡ wrap (a -ℤ b) }
     ensures told { result.wrapped ≡ tell && changes (a -ℤ b) }
 {
@@ -56,7 +58,7 @@ pub fn sub_told(tell: bool, a: i32, b: i32) -> Told
 }
 
 // -a
-pub fn negate_told(tell: bool, a: i32) -> Told
+pub fn negate_told(tell: bool, a: i32) -> Told<i32>
     ensures value { result.value ≡ wrap (neg_ℤ a) }
     ensures told { result.wrapped ≡ tell && changes (neg_ℤ a) }
 {
@@ -64,7 +66,7 @@ pub fn negate_told(tell: bool, a: i32) -> Told
 }
 
 // 3 * a
-pub fn thrice_told(tell: bool, a: i32) -> Told
+pub fn thrice_told(tell: bool, a: i32) -> Told<i32>
     ensures value { result.value ≡ wrap (pos 3 *ℤ a) }
     ensures told { result.wrapped ≡ tell && changes (pos 3 *ℤ a) }
 {

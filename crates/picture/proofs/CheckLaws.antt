@@ -1,27 +1,21 @@
 -- What checks that pass tell: the test of each is false, and so the facts that the tests are for. A list is taken apart by the names of its parts.
 use Prim.Native.Nat.{ℕ, zero, suc, ◌*◌, ◌≤◌, ◌<◌}
-use mathlib.Core.Path.{◌≡◌, refl, sym, ap, ◌∙◌}
+use mathlib.Core.Path.{◌≡◌, refl}
 use mathlib.Core.Bool.{Bool, true, false, ◌||◌}
-use mathlib.Core.List.{List, [], ◌∷◌, ◌++◌}
+use mathlib.Core.List.{List, [], ◌∷◌}
 use native.Mathlib.Omega.{arith}
 use native.Mathlib.Decide.{dec_le}
 use native.Mathlib.Nat.{mul-le-mul}
 use lib.Dec.{T, ltb, eqb}
 use lib.IntN.{ℤ}
 use lib.ListN.{length}
-use borrow.Author.Tests.{ltb-false, le-ltb, eqb-true, not-false, le-leb, lt-leb, eq-eqb, ne_eqb}
-use Rattle.picture.specs.declared.mode.Mode.{Mode}
+use borrow.Author.Tests.{ltb-false, le-ltb, eqb-true, not-false, le-leb, lt-leb, eq-eqb}
 use Rattle.picture.specs.declared.size.Size.{Size}
-use Rattle.picture.specs.declared.mode.ModeAnswer.{ModeAnswer}
-use Rattle.picture.specs.declared.mode.ModeAnswer.TheVariants.{Known, Unknown}
-use Rattle.picture.specs.declared.checks.Checked.{Checked}
-use Rattle.picture.specs.declared.checks.Checked.TheVariants.{Ready, Refused}
 use Rattle.picture.specs.Sizes.{Sized, macroblocks, Shape}
-use Rattle.picture.specs.Refusals.{mode_range, width_range, height_range, dc_length, low_pass_length, high_pass_length, samples_length}
-use Rattle.picture.specs.Modes.{mode_answer, mode_number, mode_of, checked, checked_number}
+use Rattle.picture.specs.Refusals.{width_range, height_range, dc_length, low_pass_length, high_pass_length, samples_length}
 use Rattle.picture.specs.Planes.{Planes, Lengths}
-use Rattle.picture.specs.Numbers.{◌if◌, first_of, settled, unlike, outside, mode_check, width_check, height_check, size_checks, shape_checks, dc_check, low_check, high_check, low_checks, plane_checks, sample_check}
-use Rattle.picture.proofs.NumberLaws.{refused-first, passed_first, both_pass, pass_both, settled-refused}
+use Rattle.picture.specs.Numbers.{◌if◌, first_of, unlike, outside, mode_check, width_check, height_check, size_checks, shape_checks, dc_check, low_check, high_check, low_checks, plane_checks, sample_check}
+use Rattle.picture.proofs.NumberLaws.{both_pass, pass_both}
 
 -- the test of a single check that passes is false, and a false test passes
 pub passes : (k : ℕ) (b : Bool) → T (ltb 0 k) → first_of ((k if b) ∷ []) ≡ 0 → b ≡ false
@@ -118,82 +112,3 @@ fits-planes n s f =
 
 pub samples-fit : (n : ℕ) (samples : List ℤ) → first_of (sample_check n samples) ≡ 0 → length samples ≡ 256 * n
 samples-fit n samples e = fits samples_length (length samples) (256 * n) tt e
-
--- ---- what checks answer
-
-pub ready : (k mode : ℕ) (m : Mode) → Ready m ≡ checked k mode → (k ≡ 0) × (m ≡ mode_of mode)
-ready zero mode m e = (refl, cc)
-ready (suc k) mode m e = absurd (let z : ◌≡◌ {A = ℕ} 0 1 = cc in omega arith)
-
-pub refused : (k mode j : ℕ) → Refused j ≡ checked k mode → (j ≡ k) × (j ≡ 0 → ⊥)
-refused zero mode j e = absurd (let z : ◌≡◌ {A = ℕ} 0 1 = cc in omega arith)
-refused (suc k) mode j e = let f : j ≡ suc k = cc in (f, λ z. omega (arith, f, z))
-
--- an answer whose number is k is that of k
-pub answers : {r : Checked} {k : ℕ} (mode : ℕ) → record { number : checked_number r ≡ k; answer : r ≡ checked (checked_number r) mode } → r ≡ checked k mode
-answers {r} {k} mode e = e.answer ∙ ap (λ (j : ℕ). checked j mode) e.number
-
--- the answer of checks of mode and size, by what the mode's number chooses
-abbrev shape_number : Size → ModeAnswer → ℕ
-shape_number size a = first_of ((mode_number a ∷ []) ++ size_checks size)
-
-pub unknown_mode : (mode : ℕ) (size : Size) → Unknown ≡ mode_answer mode → mode_range ≡ first_of (shape_checks mode size)
-unknown_mode mode size e = ap (shape_number size) e
-
-pub known_shape : (mode : ℕ) (size : Size) (m : Mode) → Known m ≡ mode_answer mode → {k : ℕ} → k ≡ first_of (size_checks size) → k ≡ first_of (shape_checks mode size)
-known_shape mode size m e f = f ∙ ap (shape_number size) e
-
-pub refused-is : (k mode : ℕ) → (k ≡ 0 → ⊥) → Refused k ≡ checked k mode
-refused-is zero mode h = absurd (h refl)
-refused-is (suc k) mode h = refl
-
-pub chosen : (mode : ℕ) (m : Mode) → Known m ≡ mode_answer mode → m ≡ mode_of mode
-chosen mode m e = case (dec_le mode 2)
-  where
-    case : Dec (mode ≤ 2) → m ≡ mode_of mode
-    case (yes h) = let f = rw (le-leb mode 2 h) at e in cc
-    case (no n) = let f = rw (lt-leb mode 2 (omega (arith, n))) at e in absurd (let z : ◌≡◌ {A = ℕ} 0 1 = cc in omega arith)
-
-first-only : (k : ℕ) → first_of (k ∷ []) ≡ k
-first-only zero = refl
-first-only (suc k) = refl
-
-above_zero : (k : ℕ) → T (ltb 0 k) → k ≡ 0 → ⊥
-above_zero zero t e = t
-above_zero (suc k) t e = omega (arith, e)
-
--- ---- a call whose further checks, `rest`, come after those of mode and size
-
--- checks for a count of macroblocks that is known by another name
-pub counted : (checks : ℕ → List ℕ) {r n m : ℕ} → r ≡ first_of (checks n) → n ≡ m → r ≡ first_of (checks m)
-counted checks e h = e ∙ ap (λ (k : ℕ). first_of (checks k)) h
-
--- checks, and after them one of a slice's length, whose number is k
-module _ {A : Type 0} (checks : List ℕ) (k len want : ℕ) (result was : A) {r : ℕ} (e : r ≡ first_of checks) where
-  pub refused_before : (r ≡ 0 → ⊥) → (r ≡ first_of (checks ++ (k if unlike len want) ∷ [])) × (was ≡ settled r result was)
-  refused_before n = (refused-first checks ((k if unlike len want) ∷ []) e n, sym (settled-refused r result was n))
-
-  pub refused-length : T (ltb 0 k) → r ≡ 0 → (len ≡ want → ⊥) → (k ≡ first_of (checks ++ (k if unlike len want) ∷ [])) × (was ≡ settled k result was)
-  refused-length t z n =
-      let one : first_of ((k if unlike len want) ∷ []) ≡ first_of (k ∷ []) = simp (ne_eqb len want n) in
-      (sym (passed_first checks ((k if unlike len want) ∷ []) e z ∙ one ∙ first-only k), sym (settled-refused k result was (above_zero k t)))
-
-  pub passed_length : r ≡ 0 → len ≡ want → 0 ≡ first_of (checks ++ (k if unlike len want) ∷ [])
-  passed_length z h = sym (passed_first checks ((k if unlike len want) ∷ []) e z ∙ simp (eq-eqb len want h))
-
-module _ (mode : ℕ) (size : Size) (rest : List ℕ) where
-  pub refused_call : {A : Type 0} {j : ℕ} (result was : A) → Refused j ≡ checked (first_of (shape_checks mode size)) mode → (j ≡ first_of (shape_checks mode size ++ rest)) × (was ≡ settled j result was)
-  refused_call {A} {j} result was e =
-      let (f, n) = refused (first_of (shape_checks mode size)) mode j e in
-      (refused-first (shape_checks mode size) rest f n, sym (settled-refused j result was n))
-
-  module _ {m : Mode} (e : Ready m ≡ checked (first_of (shape_checks mode size)) mode) where
-    pub ready-number : {r : ℕ} → r ≡ first_of rest → r ≡ first_of (shape_checks mode size ++ rest)
-    ready-number f = f ∙ sym (passed_first (shape_checks mode size) rest refl (ready (first_of (shape_checks mode size)) mode m e).0)
-
-    pub ready_call : {A : Type 0} (result : Mode → A) (was : A) {r : ℕ} {now : A} → r ≡ first_of rest → now ≡ settled r (result m) was
-        → (r ≡ first_of (shape_checks mode size ++ rest)) × (now ≡ settled r (result (mode_of mode)) was)
-    ready_call result was {r} f g = (ready-number f, g ∙ ap (λ (k : Mode). settled r (result k) was) (ready (first_of (shape_checks mode size)) mode m e).1)
-
-    pub ready-sized : Sized size
-    ready-sized = (shaped mode size (ready (first_of (shape_checks mode size)) mode m e).0).sized

@@ -1,3 +1,4 @@
-pub mod NumberLaws
+pub mod AnswerLaws
 pub mod CheckLaws
+pub mod NumberLaws
 pub mod Table

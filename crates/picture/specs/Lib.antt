@@ -4,3 +4,4 @@ pub mod Modes
 pub mod Table
 pub mod Planes
 pub mod Numbers
+pub mod Answers

@@ -1,9 +1,11 @@
 -- The numbers that the operations give: checks in their order, of which the first that fails gives its number (01, "The numbers each operation gives").
-use Rattle.std.specs.Prelude.{ℕ, zero, suc, ◌*◌, Bool, true, false, not, ◌||◌, List, [], ◌∷◌, ◌++◌, eqb, ltb, ℤ, length}
+use Rattle.std.specs.Prelude.{ℕ, zero, suc, ◌≡◌, ◌*◌, Result, IfOk, Bool, true, false, not, ◌||◌, List, [], ◌∷◌, ◌++◌, eqb, ltb, ℤ, length}
 use Rattle.picture.specs.declared.size.Size.{Size}
 use Rattle.picture.specs.Sizes.{macroblocks}
 use Rattle.picture.specs.Refusals.{width_range, height_range, dc_length, low_pass_length, high_pass_length, samples_length, view_length}
-use Rattle.picture.specs.Modes.{mode_answer, mode_number}
+use Rattle.picture.specs.declared.refusals.Refusal.{Refusal}
+use Rattle.picture.specs.Refusals.{number_of}
+use Rattle.picture.specs.Modes.{mode_answer}
 use Rattle.picture.specs.Planes.{Planes}
 
 -- a check: its number where the test fails it, and 0 where it passes
@@ -28,7 +30,7 @@ outside most x = ltb x 1 || ltb most x
 
 -- mode and size
 abbrev pub mode_check : ℕ → List ℕ
-mode_check mode = mode_number (mode_answer mode) ∷ []
+mode_check mode = number_of (mode_answer mode) ∷ []
 
 abbrev pub width_check : Size → List ℕ
 width_check size = (width_range if outside 525 size.width.0) ∷ []
@@ -38,6 +40,11 @@ height_check size = (height_range if outside 413 size.height.0) ∷ []
 
 abbrev pub size_checks : Size → List ℕ
 size_checks size = width_check size ++ height_check size
+
+-- what a size is turned into: the number of its checks, and the size where they pass
+pub record GivesSize (size : Size) (answer : Result Size Refusal) : Type 0 where
+  pub number : number_of answer ≡ first_of (size_checks size)
+  pub same : IfOk answer (λ picture. picture ≡ size)
 
 abbrev pub shape_checks : ℕ → Size → List ℕ
 shape_checks mode size = mode_check mode ++ size_checks size

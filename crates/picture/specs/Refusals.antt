@@ -1,5 +1,7 @@
 -- The number of each check, by its name (01, "The numbers each operation gives"; 14 and 15: 02, a).
-use Rattle.std.specs.Prelude.{ℕ}
+use Rattle.std.specs.Prelude.{ℕ, Result, Ok, Err}
+use Rattle.picture.specs.declared.refusals.Refusal.{Refusal}
+use Rattle.picture.specs.declared.refusals.Refusal.TheVariants.{ModeRange, WidthRange, HeightRange, DcLength, LowPassLength, HighPassLength, SamplesLength, ViewLength, FileTooShort, LastWord, Offsets, FileLength, TooManyMacroblocks, StepIndex, Product}
 
 -- mode above 2; W outside 1 to 525; H outside 1 to 413
 abbrev pub mode_range : ℕ
@@ -50,3 +52,25 @@ step_index = 14
 
 abbrev pub product : ℕ
 product = 15
+
+abbrev pub number_of_refusal : Refusal → ℕ
+number_of_refusal ModeRange = mode_range
+number_of_refusal WidthRange = width_range
+number_of_refusal HeightRange = height_range
+number_of_refusal DcLength = dc_length
+number_of_refusal LowPassLength = low_pass_length
+number_of_refusal HighPassLength = high_pass_length
+number_of_refusal SamplesLength = samples_length
+number_of_refusal ViewLength = view_length
+number_of_refusal FileTooShort = file_too_short
+number_of_refusal LastWord = last_word
+number_of_refusal Offsets = offsets
+number_of_refusal FileLength = file_length
+number_of_refusal TooManyMacroblocks = too_many_macroblocks
+number_of_refusal StepIndex = step_index
+number_of_refusal Product = product
+
+-- the number of a call: 0 where it is done, and else its refusal's
+abbrev pub number_of : {A : Type 0} → Result A Refusal → ℕ
+number_of (Ok x) = 0
+number_of (Err refusal) = number_of_refusal refusal

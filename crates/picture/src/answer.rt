@@ -1,5 +1,7 @@
-// What inverse, forward and quarter view answer: the number of the first check that fails, or 0, and whether a sum wrapped.
-ghost use Rattle.std.specs.Prelude.{◌≡◌, false};
+// What inverse, forward and quarter view answer in C: the number of the first check that fails, or 0, and whether a sum wrapped. A refused call says no.
+ghost use Rattle.picture.specs.Answers.{GivesAnswer};
+
+use crate::refusals::Refusal;
 
 #[repr(C)]
 #[derive(Clone, Copy)]
@@ -8,18 +10,16 @@ pub struct Answer {
     pub wrapped: bool,
 }
 
-// A refused call says no.
-pub fn refused(number: u32) -> Answer
-    ensures { (result.number ≡ number) × (result.wrapped ≡ false) }
-{
-    Answer {
-        number,
-        wrapped: false,
-    }
-}
+impl From<Result<bool, Refusal>> for Answer {
+    ghost from_gives = { GivesAnswer };
 
-pub fn done(wrapped: bool) -> Answer
-    ensures { (result.number ≡ 0) × (result.wrapped ≡ wrapped) }
-{
-    Answer { number: 0, wrapped }
+    fn from(told: Result<bool, Refusal>) -> Answer {
+        match told {
+            Ok(wrapped) => Answer { number: 0, wrapped },
+            Err(refusal) => Answer {
+                number: refusal.into(),
+                wrapped: false,
+            },
+        }
+    }
 }

@@ -1,5 +1,5 @@
-// Counts that carry their unit: macroblocks, blocks and samples along one direction, and the macroblocks of a whole picture. A macroblock is 4 blocks
-// across and a block 4 samples, so the conversions by 4 are those of a direction; an area has none.
+// Counts that carry their unit: macroblocks, blocks and samples along one direction. A macroblock is 4 blocks across and a block 4 samples, so the
+// conversions by 4 are those of a direction.
 ghost use Rattle.std.specs.Prelude.{◌≡◌, ◌*◌, ◌≤◌};
 
 #[repr(C)]
@@ -11,10 +11,6 @@ pub struct Blocks(pub u32);
 
 #[derive(Clone, Copy)]
 pub struct Samples(pub u32);
-
-// n, the macroblocks of a picture.
-#[derive(Clone, Copy)]
-pub struct Area(pub u32);
 
 impl Macroblocks {
     pub fn blocks(self) -> Blocks

@@ -1,18 +1,12 @@
 // The modes: each knows which of the two levels it filters.
-ghost use Rattle.std.specs.Prelude.{◌≡◌};
-ghost use Rattle.picture.specs.Modes.{mode_answer};
+ghost use Rattle.picture.specs.Modes.{GivesMode};
+
+use crate::refusals::Refusal;
 
 #[derive(Clone, Copy)]
 pub struct Mode {
     pub first: bool,
     pub second: bool,
-}
-
-// What a number chooses: a mode, or none.
-#[derive(Clone, Copy)]
-pub enum ModeAnswer {
-    Known(Mode),
-    Unknown,
 }
 
 impl Mode {
@@ -30,15 +24,19 @@ impl Mode {
         first: true,
         second: true,
     };
+}
 
-    pub fn from_number(number: u32) -> ModeAnswer
-        ensures { result ≡ mode_answer number }
-    {
+impl TryFrom<u32> for Mode {
+    type Error = Refusal;
+
+    ghost try_from_gives = { GivesMode };
+
+    fn try_from(number: u32) -> Result<Mode, Refusal> {
         match number {
-            0 => ModeAnswer::Known(Mode::UNFILTERED),
-            1 => ModeAnswer::Known(Mode::SECOND_LEVEL),
-            2 => ModeAnswer::Known(Mode::BOTH_LEVELS),
-            _ => ModeAnswer::Unknown,
+            0 => Ok(Mode::UNFILTERED),
+            1 => Ok(Mode::SECOND_LEVEL),
+            2 => Ok(Mode::BOTH_LEVELS),
+            _ => Err(Refusal::ModeRange),
         }
     }
 }

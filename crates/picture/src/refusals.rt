@@ -1,30 +1,56 @@
-// The number of each check, by its name. The definitions have the same names (specs/Refusals.antt), and the contracts tie the two.
-pub const MODE_RANGE: u32 = 1;
+// The refusals, one for each check, and the number of each. The definitions have the same names (specs/Refusals.antt).
+ghost use Rattle.std.specs.Prelude.{◌≡◌};
+ghost use Rattle.picture.specs.Refusals.{number_of_refusal, number_of as numberOf};
 
-pub const WIDTH_RANGE: u32 = 2;
+#[derive(Clone, Copy, Debug, PartialEq, Eq)]
+pub enum Refusal {
+    ModeRange,
+    WidthRange,
+    HeightRange,
+    DcLength,
+    LowPassLength,
+    HighPassLength,
+    SamplesLength,
+    ViewLength,
+    FileTooShort,
+    LastWord,
+    Offsets,
+    FileLength,
+    TooManyMacroblocks,
+    StepIndex,
+    Product,
+}
 
-pub const HEIGHT_RANGE: u32 = 3;
+impl From<Refusal> for u32 {
+    ghost from_gives = { λ refusal number. number ≡ number_of_refusal refusal };
 
-pub const DC_LENGTH: u32 = 4;
+    fn from(refusal: Refusal) -> u32 {
+        match refusal {
+            Refusal::ModeRange => 1,
+            Refusal::WidthRange => 2,
+            Refusal::HeightRange => 3,
+            Refusal::DcLength => 4,
+            Refusal::LowPassLength => 5,
+            Refusal::HighPassLength => 6,
+            Refusal::SamplesLength => 7,
+            Refusal::ViewLength => 8,
+            Refusal::FileTooShort => 9,
+            Refusal::LastWord => 10,
+            Refusal::Offsets => 11,
+            Refusal::FileLength => 12,
+            Refusal::TooManyMacroblocks => 13,
+            Refusal::StepIndex => 14,
+            Refusal::Product => 15,
+        }
+    }
+}
 
-pub const LOW_PASS_LENGTH: u32 = 5;
-
-pub const HIGH_PASS_LENGTH: u32 = 6;
-
-pub const SAMPLES_LENGTH: u32 = 7;
-
-pub const VIEW_LENGTH: u32 = 8;
-
-pub const FILE_TOO_SHORT: u32 = 9;
-
-pub const LAST_WORD: u32 = 10;
-
-pub const OFFSETS: u32 = 11;
-
-pub const FILE_LENGTH: u32 = 12;
-
-pub const TOO_MANY_MACROBLOCKS: u32 = 13;
-
-pub const STEP_INDEX: u32 = 14;
-
-pub const PRODUCT: u32 = 15;
+// The number of a call that gives nothing else: 0 where it is done.
+pub fn number_of(done: Result<(), Refusal>) -> u32
+    ensures { result ≡ numberOf done }
+{
+    match done {
+        Ok(()) => 0,
+        Err(refusal) => refusal.into(),
+    }
+}

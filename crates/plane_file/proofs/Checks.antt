@@ -1,23 +1,22 @@
 -- What the checks of a header, of load and of save tell where they pass; and the answer of a header by its number.
 use Prim.Native.Nat.{ℕ, zero, suc, ◌≤◌}
-use mathlib.Core.Path.{◌≡◌, refl, sym, ap, ◌∙◌}
-use mathlib.Core.Bool.{Bool}
-use mathlib.Core.List.{List, [], ◌∷◌, ◌++◌}
+use mathlib.Core.Path.{◌≡◌, refl, sym, ◌∙◌}
+use mathlib.Core.List.{List, ◌++◌}
 use native.Mathlib.Omega.{arith}
 use lib.ListN.{length}
 use borrow.Author.Tests.{ltb-false, le-ltb, eq-eqb, ne_eqb}
+use Rattle.picture.specs.declared.refusals.Refusal.{Refusal}
 use Rattle.picture.specs.declared.size.Size.{Size}
-use Rattle.picture.specs.Sizes.{Sized, macroblocks, Shape}
+use Rattle.picture.specs.Sizes.{macroblocks, Shape}
 use Rattle.picture.specs.Planes.{Planes, Lengths}
-use Rattle.picture.specs.Refusals.{file_too_short, last_word, offsets, file_length}
-use Rattle.picture.specs.Numbers.{◌if◌, first_of, settled, unlike, shape_checks, plane_checks}
+use Rattle.picture.specs.Refusals.{number_of_refusal, file_too_short, last_word, offsets, file_length}
+use Rattle.picture.specs.Numbers.{first_of, settled, shape_checks, plane_checks}
 use Rattle.picture.proofs.CheckLaws.{passes, passing, either_false, neither, like, alike, fits, is-fit, shaped, shape_passes, fits-planes}
-use Rattle.picture.proofs.NumberLaws.{refused-first, passed_first, both_pass, pass_both, settled-done, settled-refused}
-use Rattle.plane_file.specs.declared.header.Header.{Header}
-use Rattle.plane_file.specs.declared.header.Words.{Words}
-use Rattle.plane_file.specs.Header.{words_of, size_of, mode_in, size_in, header_of, answer}
+use Rattle.picture.proofs.NumberLaws.{refused-first, passed_first, both_pass, pass_both, settled-done}
+use Rattle.picture.proofs.AnswerLaws.{refused-keeps}
+use Rattle.plane_file.specs.Header.{words_of, mode_in, size_in, header_of, answer}
 use Rattle.plane_file.specs.Layout.{header_bytes, dc_offset, low_offset, high_offset, total}
-use Rattle.plane_file.specs.Numbers.{misplaced, last_check, offsets_check, layout_checks, word_checks, short_check, start_checks, total_check, count_in, header_number, save_number}
+use Rattle.plane_file.specs.Numbers.{last_check, offsets_check, layout_checks, word_checks, short_check, start_checks, total_check, count_in, header_number, save_number}
 
 -- a header's words as its checks let them through, in bytes of the length that they say
 pub record HeaderFits (bytes : List ℕ) : Type 0 where
@@ -78,70 +77,34 @@ fits-header bytes f =
     let start = pass_both (short_check bytes) (word_checks w) (passing file_too_short _ (le-ltb (length bytes) header_bytes f.enough)) words in
     pass_both (start_checks bytes) (total_check (count_in bytes) (length bytes)) start (is-fit file_length (length bytes) (total (count_in bytes)) f.whole)
 
--- ---- single checks
+-- ---- the answer, by its number
 
-pub offsets-right : (n : ℕ) (w : Words) → w.dc ≡ dc_offset → w.low ≡ low_offset n → w.high ≡ high_offset n
-    → misplaced n w ≡ unlike w.total (total n)
-offsets-right n w a b c = simp (eq-eqb w.dc dc_offset a, eq-eqb w.low (low_offset n) b, eq-eqb w.high (high_offset n) c)
+pub answer-done : (k : ℕ) (bytes : List ℕ) → k ≡ 0 → header_of 0 (mode_in bytes) (size_in bytes) ≡ answer k bytes
+answer-done zero bytes e = refl
+answer-done (suc k) bytes e = absurd (omega (arith, e))
 
-pub laid : (w : Words) {n : ℕ} {r : Bool} → w.last ≡ 0 → n ≡ macroblocks (size_of w.width w.height) → r ≡ misplaced n w
-    → first_of (layout_checks w) ≡ first_of ((offsets if r) ∷ [])
-laid w h e m = rw (m, e) (simp (eq-eqb w.last 0 h))
+-- a refusal, whatever checks follow
+pub refusal_some : (refusal : Refusal) → number_of_refusal refusal ≡ 0 → ⊥
+refusal_some refusal e = let z : ◌≡◌ {A = ℕ} 1 0 = sym (settled-done _ 1 0 e) ∙ refused-keeps refusal 1 0 in omega arith
+
+pub still_refused : (xs ys : List ℕ) (refusal : Refusal) → number_of_refusal refusal ≡ first_of xs → number_of_refusal refusal ≡ first_of (xs ++ ys)
+still_refused xs ys refusal e = refused-first xs ys e (refusal_some refusal)
+
+-- checks that pass, and further ones after them
+pub then_checks : (xs ys : List ℕ) {k : ℕ} → 0 ≡ first_of xs → k ≡ first_of ys → k ≡ first_of (xs ++ ys)
+then_checks xs ys z e = e ∙ sym (passed_first xs ys z refl)
+
+-- what a call leaves: what was there where it refuses, and else the result
+pub kept : {A : Type 0} {k : ℕ} (refusal : Refusal) (x y : A) → number_of_refusal refusal ≡ k → y ≡ settled k x y
+kept refusal x y e = rw (← e) (sym (refused-keeps refusal x y))
+
+pub changed : {A : Type 0} {k : ℕ} (x y : A) → 0 ≡ k → x ≡ settled k x y
+changed x y e = sym (settled-done _ x y (sym e))
+
+-- ---- the check of the file's length
 
 pub total_off : (n t bytes : ℕ) → t ≡ total n → (bytes ≡ t → ⊥) → file_length ≡ first_of (total_check n bytes)
 total_off n t bytes e h = sym (simp (ne_eqb bytes (total n) (λ z. h (z ∙ sym e))))
 
 pub total_on : (n t bytes : ℕ) → t ≡ total n → bytes ≡ t → first_of (total_check n bytes) ≡ 0
 total_on n t bytes e h = simp (eq-eqb bytes (total n) (h ∙ e))
-
--- with a header's bytes the words decide
-pub start_number : (bytes : List ℕ) (w : Words) {k : ℕ} → header_bytes ≤ length bytes → w ≡ words_of bytes → k ≡ first_of (word_checks w) → k ≡ first_of (start_checks bytes)
-start_number bytes w h e q = q ∙ ap (λ (v : Words). first_of (word_checks v)) e ∙ sym (simp (le-ltb (length bytes) header_bytes h))
-
--- ---- the answer, by its number
-
-pub answer-refused : (k : ℕ) (bytes : List ℕ) → (k ≡ 0 → ⊥) → header_of k 0 (size_of 0 0) ≡ answer k bytes
-answer-refused zero bytes h = absurd (h refl)
-answer-refused (suc k) bytes h = refl
-
-pub answer-done : (k : ℕ) (bytes : List ℕ) → k ≡ 0 → header_of 0 (mode_in bytes) (size_in bytes) ≡ answer k bytes
-answer-done zero bytes e = refl
-answer-done (suc k) bytes e = absurd (omega (arith, e))
-
-answer-number : (k : ℕ) (bytes : List ℕ) → (answer k bytes).number ≡ k
-answer-number zero bytes = refl
-answer-number (suc k) bytes = refl
-
--- an answer to some checks, and further checks after them
-module _ (bytes : List ℕ) (xs : List ℕ) (r : Header) (e : r ≡ answer (first_of xs) bytes) where
-  pub number_of : first_of xs ≡ r.number
-  number_of = sym (ap (λ (h : Header). h.number) e ∙ answer-number (first_of xs) bytes)
-
-  pub still_refused : (ys : List ℕ) → (r.number ≡ 0 → ⊥) → r ≡ answer (first_of (xs ++ ys)) bytes
-  still_refused ys h = e ∙ ap (λ (k : ℕ). answer k bytes) (refused-first xs ys refl (λ z. h (sym number_of ∙ z)))
-
-  pub next_refused : (ys : List ℕ) {k : ℕ} → r.number ≡ 0 → k ≡ first_of ys → (k ≡ 0 → ⊥) → header_of k 0 (size_of 0 0) ≡ answer (first_of (xs ++ ys)) bytes
-  next_refused ys z q h =
-      answer-refused _ bytes h ∙ ap (λ (k : ℕ). answer k bytes) (q ∙ sym (passed_first xs ys refl (number_of ∙ z)))
-
-  pub next_done : (ys : List ℕ) → r.number ≡ 0 → first_of ys ≡ 0 → r ≡ answer (first_of (xs ++ ys)) bytes
-  next_done ys z q =
-      e ∙ ap (λ (k : ℕ). answer k bytes) (number_of ∙ z ∙ sym q ∙ sym (passed_first xs ys refl (number_of ∙ z)))
-
-  pub read_done : r.number ≡ 0 → r ≡ header_of 0 (mode_in bytes) (size_in bytes)
-  read_done z = e ∙ sym (answer-done (first_of xs) bytes (number_of ∙ z))
-
-  pub read_count : r.number ≡ 0 → macroblocks r.size ≡ count_in bytes
-  read_count z = ap (λ (h : Header). macroblocks h.size) (read_done z)
-
--- a header that was read is of a shape that the checks let through
-pub read_sized : (bytes ys : List ℕ) (r : Header) → r ≡ answer (first_of (start_checks bytes ++ ys)) bytes → r.number ≡ 0 → Sized r.size
-read_sized bytes ys r e z =
-    rw (read_done bytes (start_checks bytes ++ ys) r e z) (start_shape bytes ys (number_of bytes (start_checks bytes ++ ys) r e ∙ z)).sized
-
--- what an answer leaves: what was there where it refuses, and else the result
-pub unchanged : {A : Type 0} (bytes : List ℕ) (k : ℕ) (r : Header) (x y : A) → r ≡ answer k bytes → (r.number ≡ 0 → ⊥) → y ≡ settled k x y
-unchanged bytes k r x y e h = sym (settled-refused k x y (λ z. h (ap (λ (a : Header). a.number) e ∙ answer-number k bytes ∙ z)))
-
-pub changed : {A : Type 0} (bytes : List ℕ) (k : ℕ) (r : Header) (x y : A) → r ≡ answer k bytes → r.number ≡ 0 → x ≡ settled k x y
-changed bytes k r x y e z = sym (settled-done k x y (sym (answer-number k bytes) ∙ sym (ap (λ (a : Header). a.number) e) ∙ z))

@@ -1,7 +1,7 @@
 pub mod Parts
 pub mod Signs
 pub mod Checks
+pub mod Calls
 pub mod Written
-pub mod Reading
 pub mod RoundTrips
 pub mod Sanity

@@ -1,31 +1,14 @@
 -- Words and numbers in lists of bytes: what stands behind a part that has been written moves up by what is written next.
-use Prim.Native.Nat.{ℕ, suc, ◌+◌, ◌*◌, ◌/◌, ◌%◌, ◌≤◌, ◌<◌}
+use Prim.Native.Nat.{ℕ, ◌+◌, ◌*◌, ◌≤◌, ◌<◌}
 use mathlib.Core.Path.{◌≡◌, refl, sym, ap, ◌∙◌}
 use mathlib.Core.List.{List, [], ◌∷◌, ◌++◌, append_assoc, append-nil, map}
 use native.Mathlib.Omega.{arith}
 use native.Mathlib.Numerals.{add-one}
-use lib.ListN.{length, take, drop, get_or, set, length-append, length-map, get_or-map, take-append-drop}
-use lib.Seq.{sets-eq, take_at, drop-append-add, drop-drop, take-suc, length-take-le}
-use lib.IntN.{ℤ, pos}
+use lib.ListN.{length, take, drop, get_or, length-append, length-map, take-append-drop}
+use lib.Seq.{take_at, drop-append-add, drop-drop, take-suc, length-take-le}
+use lib.IntN.{ℤ}
 use Rattle.lifting.specs.Wrap.{low32}
 use Rattle.plane_file.specs.Words.{word, words, numbers}
-
--- ---- four bytes are stored
-
-two : (i : ℕ) → i + 2 ≡ suc (suc i)
-two i = omega arith
-
-three : (i : ℕ) → i + 3 ≡ suc (suc (suc i))
-three i = omega arith
-
-stored : (l : List ℕ) (i a b c d : ℕ) → i + 4 ≤ length l
-    → set (set (set (set l i a) (i + 1) b) (i + 2) c) (i + 3) d ≡ take i l ++ (a ∷ b ∷ c ∷ d ∷ []) ++ drop (i + 4) l
-stored l i a b c d h = rw (add-one i, two i, three i) (sets-eq (a ∷ b ∷ c ∷ d ∷ []) l i h)
-
-pub word_stored : (l : List ℕ) (i x : ℕ) {a b c d : ℕ} → i + 4 ≤ length l
-    → a ≡ x % 256 → b ≡ x / 256 % 256 → c ≡ x / 65536 % 256 → d ≡ x / 16777216 % 256
-    → set (set (set (set l i a) (i + 1) b) (i + 2) c) (i + 3) d ≡ take i l ++ word x ++ drop (i + 4) l
-word_stored l i x h e f g k = rw (e, f, g, k) (stored l i _ _ _ _ h)
 
 -- ---- one part after another
 
@@ -91,19 +74,8 @@ all-written ws b at i e w = w ∙ rw (e, take_whole ws)
     take_whole [] = refl
     take_whole (x ∷ l) = ap (λ (k : List ℕ). x ∷ k) (take_whole l)
 
--- ---- the same for a plane's numbers
+-- ---- a plane's numbers
 
 pub numbers-length : (xs : List ℤ) → length (numbers xs) ≡ 4 * length xs
 unfolding numbers
 numbers-length xs = words-length (map low32 xs) ∙ ap (λ (n : ℕ). 4 * n) (length-map xs low32)
-
-pub number-written : (plane : List ℤ) (b : List ℕ) (at i x : ℕ) {b1 b2 : List ℕ} → i < length plane → at + 4 * length plane ≤ length b
-    → Written (map low32 plane) b at b1 i → x ≡ low32 (get_or plane i (pos 0))
-    → b2 ≡ take (at + 4 * i) b1 ++ word x ++ drop (at + 4 * i + 4) b1 → Written (map low32 plane) b at b2 (i + 1)
-number-written plane b at i x h fits w e q =
-    one_written (map low32 plane) b at i x (omega (arith, length-map plane low32)) (omega (arith, length-map plane low32)) w (e ∙ sym (get_or-map low32 plane i (pos 0))) q
-
-pub plane_written : (plane : List ℤ) (b : List ℕ) (at i : ℕ) {b1 : List ℕ} → i ≡ length plane → Written (map low32 plane) b at b1 i
-    → b1 ≡ take at b ++ numbers plane ++ drop (at + 4 * length plane) b
-unfolding numbers
-plane_written plane b at i e w = rw (← length-map plane low32) (all-written (map low32 plane) b at i (e ∙ sym (length-map plane low32)) w)

@@ -1,15 +1,18 @@
 // The header of a plane file: its words, their checks and what they answer.
-ghost use Rattle.std.specs.Prelude.{◌≡◌, ◌≤◌};
+ghost use Rattle.std.specs.Prelude.{◌≡◌, ◌≤◌, length, IfOk};
 ghost use Rattle.picture.specs.Numbers.{first_of};
-ghost use Rattle.plane_file.specs.Header.{by_name, size_of, header_of, answer};
+ghost use Rattle.picture.specs.Refusals.{number_of};
+ghost use Rattle.plane_file.specs.Header.{words_of, size_of, start_of, header_of, layout_said, GivesHeader};
+ghost use Rattle.plane_file.specs.Layout.{header_bytes};
 ghost use Rattle.plane_file.specs.Calls.{header_answer};
-ghost use Rattle.plane_file.specs.Numbers.{misplaced as isMisplaced, word_checks, start_checks};
+ghost use Rattle.plane_file.specs.Numbers.{word_checks, start_checks, header_number};
 
-use crate::layout::{HEADER_BYTES, HEADER_WORDS, high_offset, low_offset, total_bytes};
-use crate::reader::read_words;
-use picture::checks::{Checked, check_shape};
-use picture::counts::{Area, Macroblocks};
-use picture::refusals::{FILE_LENGTH, FILE_TOO_SHORT, LAST_WORD, OFFSETS};
+use crate::layout::{HEADER_BYTES, Layout};
+use crate::reader::WordReader;
+use picture::counts::Macroblocks;
+use picture::frame::Frame;
+use picture::picture_size::PictureSize;
+use picture::refusals::Refusal;
 use picture::size::Size;
 
 // The words in their order; the last is to be zero.
@@ -25,31 +28,11 @@ pub struct Words {
     pub last: u32,
 }
 
-// The words of a header by their names.
-fn named(words: [u32; HEADER_WORDS]) -> Words
-    ensures { result ≡ by_name words }
-{
-    Words {
-        mode: words[0],
-        width: words[1],
-        height: words[2],
-        dc: words[3],
-        low: words[4],
-        high: words[5],
-        total: words[6],
-        last: words[7],
-    }
-}
-
-impl Words {
-    pub fn size(self) -> Size
-        ensures { result ≡ size_of self.width self.height }
-    {
-        Size {
-            width: Macroblocks(self.width),
-            height: Macroblocks(self.height),
-        }
-    }
+// The mode and the size of a header whose words are checked.
+#[derive(Clone, Copy)]
+pub struct Start {
+    pub mode: u32,
+    pub size: PictureSize,
 }
 
 // The number of an operation, and, where that is 0, the mode and the size that the header says.
@@ -61,7 +44,88 @@ pub struct Header {
     pub size: Size,
 }
 
-// What is answered with a number that is not 0: zeros in the place of mode and size.
+impl Words {
+    // The words of a header, read one after another.
+    pub fn read(bytes: &[u8]) -> Words
+        requires { header_bytes ≤ length bytes.now }
+        ensures { result ≡ words_of bytes.now }
+    {
+        let mut reader = WordReader { bytes, at: 0 };
+        Words {
+            mode: reader.next(),
+            width: reader.next(),
+            height: reader.next(),
+            dc: reader.next(),
+            low: reader.next(),
+            high: reader.next(),
+            total: reader.next(),
+            last: reader.next(),
+        }
+    }
+
+    pub fn size(self) -> Size
+        ensures { result ≡ size_of self.width self.height }
+    {
+        Size {
+            width: Macroblocks(self.width),
+            height: Macroblocks(self.height),
+        }
+    }
+
+    fn layout(self) -> Layout
+        ensures { result ≡ layout_said self }
+    {
+        Layout {
+            dc: self.dc,
+            low: self.low,
+            high: self.high,
+            total: self.total,
+        }
+    }
+
+    // The mode and the size that the words say.
+    pub fn check(self) -> Result<Start, Refusal>
+        ensures number { number_of result ≡ first_of (word_checks self) }
+        ensures said { IfOk result (λ start. start ≡ start_of self) }
+    {
+        let frame = Frame::new(self.mode, self.size())?;
+        if self.last != 0 {
+            return Err(Refusal::LastWord);
+        }
+        if self.layout() != Layout::new(frame.size.macroblocks()) {
+            return Err(Refusal::Offsets);
+        }
+        Ok(Start {
+            mode: self.mode,
+            size: frame.size,
+        })
+    }
+}
+
+// The header by its words alone: whether the bytes are as many as they say is not looked at.
+pub fn read_start(bytes: &[u8]) -> Result<Start, Refusal>
+    ensures number { number_of result ≡ first_of (start_checks bytes.now) }
+    ensures said { IfOk result (λ start. start ≡ start_of (words_of bytes.now)) }
+{
+    if bytes.len() < HEADER_BYTES as usize {
+        return Err(Refusal::FileTooShort);
+    }
+    Words::read(bytes).check()
+}
+
+// The whole header.
+pub fn read_whole(bytes: &[u8]) -> Result<Start, Refusal>
+    ensures number { number_of result ≡ header_number bytes.now }
+    ensures said { IfOk result (λ start. start ≡ start_of (words_of bytes.now)) }
+{
+    let start = read_start(bytes)?;
+    if bytes.len() != Layout::new(start.size.macroblocks()).total as usize {
+        return Err(Refusal::FileLength);
+    }
+    Ok(start)
+}
+
+// What C is given with a number that is not 0: zeros in the place of mode and size.
 pub fn refused(number: u32) -> Header
     ensures { result ≡ header_of number 0 (size_of 0 0) }
 {
@@ -75,71 +139,24 @@ pub fn refused(number: u32) -> Header
     }
 }
 
-fn misplaced(n: Area, w: Words) -> bool
-    requires { n.0 ≤ 216825 }
-    ensures { result ≡ isMisplaced n.0 w }
-{
-    if w.dc != HEADER_BYTES {
-        return true;
-    }
-    if w.low != low_offset(n) {
-        return true;
-    }
-    if w.high != high_offset(n) {
-        return true;
-    }
-    w.total != total_bytes(n)
-}
+impl From<Result<Start, Refusal>> for Header {
+    ghost from_gives = { GivesHeader };
 
-// The number of the first check of the words that fails, or 0.
-pub fn check_words(w: Words) -> u32
-    ensures { result ≡ first_of (word_checks w) }
-{
-    let size = w.size();
-    let shape = check_shape(w.mode, size);
-    if let Checked::Refused(number) = shape {
-        return number;
-    }
-    if w.last != 0 {
-        return LAST_WORD;
-    }
-    if misplaced(size.macroblocks(), w) {
-        return OFFSETS;
-    }
-    0
-}
-
-// The header by its words alone: whether the bytes are as many as they say is not looked at.
-pub fn read_start(bytes: &[u8]) -> Header
-    ensures { result ≡ answer (first_of (start_checks bytes.now)) bytes.now }
-{
-    if bytes.len() < HEADER_BYTES as usize {
-        return refused(FILE_TOO_SHORT);
-    }
-    let w = named(read_words(bytes));
-    let number = check_words(w);
-    if number != 0 {
-        return refused(number);
-    }
-    let size = w.size();
-    Header {
-        number: 0,
-        mode: w.mode,
-        size,
+    fn from(told: Result<Start, Refusal>) -> Header {
+        match told {
+            Ok(start) => Header {
+                number: 0,
+                mode: start.mode,
+                size: start.size.get(),
+            },
+            Err(refusal) => refused(refusal.into()),
+        }
     }
 }
 
-// The whole header: mode and size, or the number of the first check that fails.
+// The whole header as C is given it: mode and size, or the number of the first check that fails.
 pub fn read_header(bytes: &[u8]) -> Header
     ensures { result ≡ header_answer bytes.now }
 {
-    let start = read_start(bytes);
-    if start.number != 0 {
-        return start;
-    }
-    let size = start.size;
-    if bytes.len() != total_bytes(size.macroblocks()) as usize {
-        return refused(FILE_LENGTH);
-    }
-    start
+    read_whole(bytes).into()
 }

@@ -4,6 +4,6 @@
 pub mod header; // header.rt: the header's words, their checks and what they answer
 pub mod layout; // layout.rt: where the planes start, and how long a file is
 pub mod load; // load.rt: planes from a file
-pub mod reader; // reader.rt: the reader of a header's words
+pub mod reader; // reader.rt: the reader of words
 pub mod save; // save.rt: a file from planes
-pub mod word; // word.rt: words of four bytes, and signed numbers as words
+pub mod word; // word.rt: words of four bytes, and the numbers that they stand for

@@ -7,7 +7,8 @@ use decode::text::show;
 use std::io;
 use std::io::{Read, Write};
 
-// Reads until `bytes` is full or the input ends, and returns how many bytes it put at their front.
+// Reads until `bytes` is full or the input ends, and returns how many bytes it put at their front. The library's own ways fail where the
+// input ends early, or need a heap.
 fn read_full<R: Read>(input: &mut R, bytes: &mut [u8]) -> io::Result<usize>
     ensures { IfOk result (λ got. got ≤ length bytes.new) }
 {

@@ -6,17 +6,17 @@ ghost use Rattle.figures.specs.Figures.{post_hadamard as postHadamardLines};
 ghost use Rattle.figures.specs.Pieces.{crossed_stage};
 ghost use Rattle.blocks.specs.Quads.{mirrored, OnEach, on_any};
 
-use blocks::{Quads, ToldQuads};
+use blocks::{Quads, joined};
 use figures::Four;
+use lifting::told::Told;
 use overlap_operators::{
     post_hadamard_told, post_odd_odd_told, rotation_told, scale_told, undo_post_hadamard_told,
-    undo_post_odd_odd, undo_post_odd_odd_told, undo_rotation, undo_rotation_told, undo_scale,
-    undo_scale_told,
+    undo_post_odd_odd_told, undo_rotation_told, undo_scale_told,
 };
 
 // The rotations, Figure 4.12 and the scalings, which go across the fours
-pub fn crossed_told(tell: bool, v: Quads) -> ToldQuads
-    ensures done { mirrored result.quads ≡ run crossed_stage (mirrored v) }
+pub fn crossed_told(tell: bool, v: Quads) -> Told<Quads>
+    ensures done { mirrored result.value ≡ run crossed_stage (mirrored v) }
     ensures told { result.wrapped ≡ tell && wraps crossed_stage (mirrored v) }
 {
     let admp = v.p;
@@ -24,13 +24,13 @@ pub fn crossed_told(tell: bool, v: Quads) -> ToldQuads
     let ehil = v.r;
     let fgjk = v.s;
     let nm_told = rotation_told(tell, bcno.c, admp.c);
-    let nm = nm_told.pair;
+    let nm = nm_told.value;
     let ji_told = rotation_told(tell, fgjk.c, ehil.c);
-    let ji = ji_told.pair;
+    let ji = ji_told.value;
     let hd_told = rotation_told(tell, ehil.b, admp.b);
-    let hd = hd_told.pair;
+    let hd = hd_told.value;
     let gc_told = rotation_told(tell, fgjk.b, bcno.b);
-    let gc = gc_told.pair;
+    let gc = gc_told.value;
     let klop_told = post_odd_odd_told(
         tell,
         Four {
@@ -40,15 +40,15 @@ pub fn crossed_told(tell: bool, v: Quads) -> ToldQuads
             d: admp.d,
         },
     );
-    let klop = klop_told.four;
+    let klop = klop_told.value;
     let ap_told = scale_told(tell, admp.a, klop.d);
-    let ap = ap_told.pair;
+    let ap = ap_told.value;
     let bo_told = scale_told(tell, bcno.a, klop.c);
-    let bo = bo_told.pair;
+    let bo = bo_told.value;
     let el_told = scale_told(tell, ehil.a, klop.b);
-    let el = el_told.pair;
+    let el = el_told.value;
     let fk_told = scale_told(tell, fgjk.a, klop.a);
-    let fk = fk_told.pair;
+    let fk = fk_told.value;
     let p = Four {
         a: ap.a,
         b: hd.b,
@@ -73,9 +73,9 @@ pub fn crossed_told(tell: bool, v: Quads) -> ToldQuads
         c: ji.a,
         d: fk.b,
     };
-    let quads = Quads { p, q, r, s };
-    ToldQuads {
-        quads,
+    let value = Quads { p, q, r, s };
+    Told {
+        value,
         wrapped: nm_told.wrapped
             | ji_told.wrapped
             | hd_told.wrapped
@@ -88,12 +88,6 @@ pub fn crossed_told(tell: bool, v: Quads) -> ToldQuads
     }
 }
 
-pub fn crossed(v: Quads) -> Quads
-    ensures { mirrored result ≡ run crossed_stage (mirrored v) }
-{
-    crossed_told(false, v).quads
-}
-
 // The same undone
 pub fn undo_crossed(v: Quads) -> Quads
     ensures { mirrored result ≡ undo crossed_stage (mirrored v) }
@@ -102,20 +96,21 @@ pub fn undo_crossed(v: Quads) -> Quads
     let bcno = v.q;
     let ehil = v.r;
     let fgjk = v.s;
-    let fk = undo_scale(fgjk.a, fgjk.d);
-    let el = undo_scale(ehil.a, ehil.d);
-    let bo = undo_scale(bcno.a, bcno.d);
-    let ap = undo_scale(admp.a, admp.d);
-    let klop = undo_post_odd_odd(Four {
+    let fk = undo_scale_told(false, fgjk.a, fgjk.d).value;
+    let el = undo_scale_told(false, ehil.a, ehil.d).value;
+    let bo = undo_scale_told(false, bcno.a, bcno.d).value;
+    let ap = undo_scale_told(false, admp.a, admp.d).value;
+    let ends = Four {
         a: fk.b,
         b: el.b,
         c: bo.b,
         d: ap.b,
-    });
-    let gc = undo_rotation(fgjk.b, bcno.b);
-    let hd = undo_rotation(ehil.b, admp.b);
-    let ji = undo_rotation(fgjk.c, ehil.c);
-    let nm = undo_rotation(bcno.c, admp.c);
+    };
+    let klop = undo_post_odd_odd_told(false, ends).value;
+    let gc = undo_rotation_told(false, fgjk.b, bcno.b).value;
+    let hd = undo_rotation_told(false, ehil.b, admp.b).value;
+    let ji = undo_rotation_told(false, fgjk.c, ehil.c).value;
+    let nm = undo_rotation_told(false, bcno.c, admp.c).value;
     let p = Four {
         a: ap.a,
         b: hd.b,
@@ -144,8 +139,8 @@ pub fn undo_crossed(v: Quads) -> Quads
 }
 
 // The undoing told: a second text, because the plain one goes into its loop only as a text of its own
-pub fn undo_crossed_told(v: Quads) -> ToldQuads
-    ensures done { mirrored result.quads ≡ undo crossed_stage (mirrored v) }
+pub fn undo_crossed_told(v: Quads) -> Told<Quads>
+    ensures done { mirrored result.value ≡ undo crossed_stage (mirrored v) }
     ensures told { result.wrapped ≡ undo_wraps crossed_stage (mirrored v) }
 {
     let admp = v.p;
@@ -153,13 +148,13 @@ pub fn undo_crossed_told(v: Quads) -> ToldQuads
     let ehil = v.r;
     let fgjk = v.s;
     let fk_told = undo_scale_told(true, fgjk.a, fgjk.d);
-    let fk = fk_told.pair;
+    let fk = fk_told.value;
     let el_told = undo_scale_told(true, ehil.a, ehil.d);
-    let el = el_told.pair;
+    let el = el_told.value;
     let bo_told = undo_scale_told(true, bcno.a, bcno.d);
-    let bo = bo_told.pair;
+    let bo = bo_told.value;
     let ap_told = undo_scale_told(true, admp.a, admp.d);
-    let ap = ap_told.pair;
+    let ap = ap_told.value;
     let klop_told = undo_post_odd_odd_told(
         true,
         Four {
@@ -169,15 +164,15 @@ pub fn undo_crossed_told(v: Quads) -> ToldQuads
             d: ap.b,
         },
     );
-    let klop = klop_told.four;
+    let klop = klop_told.value;
     let gc_told = undo_rotation_told(true, fgjk.b, bcno.b);
-    let gc = gc_told.pair;
+    let gc = gc_told.value;
     let hd_told = undo_rotation_told(true, ehil.b, admp.b);
-    let hd = hd_told.pair;
+    let hd = hd_told.value;
     let ji_told = undo_rotation_told(true, fgjk.c, ehil.c);
-    let ji = ji_told.pair;
+    let ji = ji_told.value;
     let nm_told = undo_rotation_told(true, bcno.c, admp.c);
-    let nm = nm_told.pair;
+    let nm = nm_told.value;
     let p = Four {
         a: ap.a,
         b: hd.b,
@@ -202,9 +197,9 @@ pub fn undo_crossed_told(v: Quads) -> ToldQuads
         c: ji.a,
         d: klop.a,
     };
-    let quads = Quads { p, q, r, s };
-    ToldQuads {
-        quads,
+    let value = Quads { p, q, r, s };
+    Told {
+        value,
         wrapped: fk_told.wrapped
             | el_told.wrapped
             | bo_told.wrapped
@@ -218,53 +213,26 @@ pub fn undo_crossed_told(v: Quads) -> ToldQuads
 }
 
 // Figure 4.11 on each four
-pub fn post_hadamards_told(tell: bool, v: Quads) -> ToldQuads
-    ensures done { OnEach (run postHadamardLines) v result.quads }
+pub fn post_hadamards_told(tell: bool, v: Quads) -> Told<Quads>
+    ensures done { OnEach (run postHadamardLines) v result.value }
     ensures told { result.wrapped ≡ tell && on_any (wraps postHadamardLines) v }
 {
-    let p_told = post_hadamard_told(tell, v.p);
-    let q_told = post_hadamard_told(tell, v.q);
-    let r_told = post_hadamard_told(tell, v.r);
-    let s_told = post_hadamard_told(tell, v.s);
-    let p = p_told.four;
-    let q = q_told.four;
-    let r = r_told.four;
-    let s = s_told.four;
-    let quads = Quads { p, q, r, s };
-    ToldQuads {
-        quads,
-        wrapped: p_told.wrapped | q_told.wrapped | r_told.wrapped | s_told.wrapped,
-    }
-}
-
-pub fn post_hadamards(v: Quads) -> Quads
-    ensures { OnEach (run postHadamardLines) v result }
-{
-    post_hadamards_told(false, v).quads
+    joined(
+        post_hadamard_told(tell, v.p),
+        post_hadamard_told(tell, v.q),
+        post_hadamard_told(tell, v.r),
+        post_hadamard_told(tell, v.s),
+    )
 }
 
 // The same undone
-pub fn undo_post_hadamards_told(tell: bool, v: Quads) -> ToldQuads
-    ensures done { OnEach (undo postHadamardLines) v result.quads }
+pub fn undo_post_hadamards_told(tell: bool, v: Quads) -> Told<Quads>
+    ensures done { OnEach (undo postHadamardLines) v result.value }
     ensures told { result.wrapped ≡ tell && on_any (undo_wraps postHadamardLines) v }
 {
-    let s_told = undo_post_hadamard_told(tell, v.s);
-    let r_told = undo_post_hadamard_told(tell, v.r);
-    let q_told = undo_post_hadamard_told(tell, v.q);
-    let p_told = undo_post_hadamard_told(tell, v.p);
-    let p = p_told.four;
-    let q = q_told.four;
-    let r = r_told.four;
-    let s = s_told.four;
-    let quads = Quads { p, q, r, s };
-    ToldQuads {
-        quads,
-        wrapped: p_told.wrapped | q_told.wrapped | r_told.wrapped | s_told.wrapped,
-    }
-}
-
-pub fn undo_post_hadamards(v: Quads) -> Quads
-    ensures { OnEach (undo postHadamardLines) v result }
-{
-    undo_post_hadamards_told(false, v).quads
+    let s = undo_post_hadamard_told(tell, v.s);
+    let r = undo_post_hadamard_told(tell, v.r);
+    let q = undo_post_hadamard_told(tell, v.q);
+    let p = undo_post_hadamard_told(tell, v.p);
+    joined(p, q, r, s)
 }

@@ -11,10 +11,9 @@ ghost use Rattle.figures.specs.Figures.{square_filter as squareFilterLines, hada
 ghost use Rattle.figures.specs.Pieces.{mirrored_stage, crossed_stage};
 
 use crate::filter_stages::{
-    crossed, crossed_told, post_hadamards, post_hadamards_told, undo_crossed, undo_crossed_told,
-    undo_post_hadamards, undo_post_hadamards_told,
+    crossed_told, post_hadamards_told, undo_crossed, undo_crossed_told, undo_post_hadamards_told,
 };
-use blocks::stage::{hadamards, hadamards_told};
+use blocks::stage::hadamards_told;
 use blocks::{mirrored, split};
 
 // The stages take and give blocks; inside, a block is four fours.
@@ -22,19 +21,19 @@ fn first_stage(b: [[i32; 4]; 4]) -> [[i32; 4]; 4]
     ensures done { flat result ≡ run (mirrored_stage Hadamard (hadamardLines (pos 0))) (flat b) }
     ensures undone { flat result ≡ undo (mirrored_stage Hadamard (hadamardLines (pos 0))) (flat b) }
 {
-    mirrored(hadamards(split(b)))
+    mirrored(hadamards_told(false, split(b)).value)
 }
 
 fn crossed_stage(b: [[i32; 4]; 4]) -> [[i32; 4]; 4]
     ensures { flat result ≡ run crossed_stage (flat b) }
 {
-    mirrored(crossed(split(b)))
+    mirrored(crossed_told(false, split(b)).value)
 }
 
 fn last_stage(b: [[i32; 4]; 4]) -> [[i32; 4]; 4]
     ensures { flat result ≡ run (mirrored_stage PostHadamard postHadamardLines) (flat b) }
 {
-    mirrored(post_hadamards(split(b)))
+    mirrored(post_hadamards_told(false, split(b)).value)
 }
 
 fn undo_crossed_stage(b: [[i32; 4]; 4]) -> [[i32; 4]; 4]
@@ -46,7 +45,7 @@ fn undo_crossed_stage(b: [[i32; 4]; 4]) -> [[i32; 4]; 4]
 fn undo_last_stage(b: [[i32; 4]; 4]) -> [[i32; 4]; 4]
     ensures { flat result ≡ undo (mirrored_stage PostHadamard postHadamardLines) (flat b) }
 {
-    mirrored(undo_post_hadamards(split(b)))
+    mirrored(undo_post_hadamards_told(false, split(b)).value)
 }
 
 // Figure 4.14
@@ -64,12 +63,13 @@ pub fn undo_square_filter(b: [[i32; 4]; 4]) -> [[i32; 4]; 4]
 }
 
 // Whether a reduction changes a number in Figure 4.14
+// It goes through the stages in a text of its own: one text for numbers and flag would have two callers, and not go into the loops over lanes.
 pub fn square_filter_wraps(b: [[i32; 4]; 4]) -> bool
     ensures { result ≡ wraps squareFilterLines (flat b) }
 {
     let first = hadamards_told(true, split(b));
-    let second = crossed_told(true, first.quads);
-    let third = post_hadamards_told(true, second.quads);
+    let second = crossed_told(true, first.value);
+    let third = post_hadamards_told(true, second.value);
     first.wrapped | second.wrapped | third.wrapped
 }
 
@@ -78,7 +78,7 @@ pub fn undo_square_filter_wraps(b: [[i32; 4]; 4]) -> bool
     ensures { result ≡ undo_wraps squareFilterLines (flat b) }
 {
     let first = undo_post_hadamards_told(true, split(b));
-    let second = undo_crossed_told(first.quads);
-    let third = hadamards_told(true, second.quads);
+    let second = undo_crossed_told(first.value);
+    let third = hadamards_told(true, second.value);
     first.wrapped | second.wrapped | third.wrapped
 }

@@ -42,7 +42,7 @@ zero-level : (step : ℕ) → 0 < step → quantised step (pos 0) ≡ pos 0
 unfolding quantised
 zero-level step h = ap pos (let l = level-most step 0 h in omega arith)
 
-level-fits : (step : ℕ) → 0 < step → (x : ℤ) → SFits w32 x → SFits w32 (quantised step x)
+pub level-fits : (step : ℕ) → 0 < step → (x : ℤ) → SFits w32 x → SFits w32 (quantised step x)
 unfolding quantised
 level-fits step h x f = sign_fits x ((nat_abs x + step / 2) / step) f (level-most step (nat_abs x) h)
 

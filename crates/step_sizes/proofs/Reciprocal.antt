@@ -1,12 +1,12 @@
 -- Division as a multiplication and a shift: a multiplier that is P / d rounded up gives each quotient whose error stays below P; that it does for every step of the table is computed.
-use Prim.Native.Nat.{ℕ, suc, ◌+◌, ◌-◌, ◌*◌, ◌/◌, ◌%◌, ◌^◌, ◌≤◌, ◌<◌}
+use Prim.Native.Nat.{min, ℕ, suc, ◌+◌, ◌-◌, ◌*◌, ◌/◌, ◌%◌, ◌^◌, ◌≤◌, ◌<◌}
 use mathlib.Core.Path.{◌≡◌, sym, ◌∙◌, ap}
 use mathlib.Core.Bool.{Bool, true, ◌&&◌}
 use mathlib.Core.List.{List, [], ◌∷◌}
 use native.Mathlib.Omega.{arith}
-use native.Mathlib.Nat.{le_trans, le_of_eq, lt_of_lt_of_le, lt_of_le_of_lt, mul_assoc, mul_right_comm, mul-add, mul-le-mul, mul-le-mul_left, mul-le-mul_right, lt_of_mul-lt-mul_right, lt-suc_self, div-mul-le_self, div-lt_iff_lt-mul, div-eq_of_lt-le, suc-mul}
+use native.Mathlib.Nat.{le_trans, le_of_eq, lt_of_lt_of_le, lt_of_le_of_lt, mul_assoc, mul_right_comm, mul-add, mul-le-mul_left, mul-le-mul_right, lt_of_mul-lt-mul_right, lt-suc_self, div-mul-le_self, div-lt_iff_lt-mul, div-eq_of_lt-le, suc-mul}
 use native.Mathlib.Numerals.{add-one}
-use lib.Dec.{T, lit<, ltb, leb, ltb→lt, leb→le}
+use lib.Dec.{T, ltb, leb, ltb→lt, leb→le}
 use lib.Count.{count_leading_zeros}
 use mir.Facts.{and_yes}
 use Rattle.lifting.proofs.Tests.{all-at}
@@ -29,10 +29,6 @@ module _ (d m P e n : ℕ) (positive : 0 < d) (product : m * d ≡ P + e) (small
   pub reciprocal : n * m / P ≡ n / d
   reciprocal = div-eq_of_lt-le P under (rw (add-one (n / d)) over)
 
--- two numbers of 32 bits
-pub wide-product : {a b : ℕ} → a < 2 ^ 32 → b < 2 ^ 32 → a * b < 2 ^ 64
-wide-product {a} {b} h k = lt_of_le_of_lt (mul-le-mul {n₁ = a} {m₁ = b} {n₂ = 4294967295} {m₂ = 4294967295} (omega arith) (omega arith)) (lit< tt)
-
 -- ---- what is computed for a step
 
 abbrev pub shift_of : ℕ → ℕ
@@ -42,7 +38,7 @@ abbrev pub power_of : ℕ → ℕ
 power_of d = 1 * 2 ^ shift_of d % 2 ^ 64
 
 abbrev pub multiplier_of : ℕ → ℕ
-multiplier_of d = (power_of d + d - 1) / d
+multiplier_of d = power_of d / d + min 1 (power_of d % d)
 
 -- the rest that is left of the multiplier's product with d
 abbrev rest_of : ℕ → ℕ
@@ -53,7 +49,6 @@ pub record Works (d : ℕ) : Type 0 where
   pub positive : 0 < d
   pub small : d ≤ largest_step
   pub shift : shift_of d < 64
-  pub wide : power_of d + d < 2 ^ 64
   pub multiplier : multiplier_of d < 2 ^ 32
   pub least : 2 ^ shift_of d ≤ multiplier_of d * d
   pub rest : (2147483648 + d / 2) * rest_of d < 2 ^ shift_of d
@@ -73,18 +68,17 @@ each_of (b ∷ tests) t = let p = and_yes b (together tests) t in (p.0, each_of 
 
 tests : ℕ → List Bool
 tests d =
-    ltb 0 d ∷ leb d largest_step ∷ ltb (shift_of d) 64 ∷ ltb (power_of d + d) (2 ^ 64)
+    ltb 0 d ∷ leb d largest_step ∷ ltb (shift_of d) 64
     ∷ ltb (multiplier_of d) (2 ^ 32) ∷ leb (2 ^ shift_of d) (multiplier_of d * d) ∷ ltb ((2147483648 + d / 2) * rest_of d) (2 ^ shift_of d) ∷ []
 
 at-step : (d : ℕ) → T (together (tests d)) → Works d
 unfolding tests
 at-step d t =
-    let (a, (b, (c, (e, (f, (g, (h, _))))))) = each_of (tests d) t in
+    let (a, (b, (c, (f, (g, (h, _)))))) = each_of (tests d) t in
     record {
       positive = ltb→lt _ _ a;
       small = leb→le _ _ b;
       shift = ltb→lt _ _ c;
-      wide = ltb→lt _ _ e;
       multiplier = ltb→lt _ _ f;
       least = leb→le _ _ g;
       rest = ltb→lt _ _ h;

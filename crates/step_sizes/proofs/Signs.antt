@@ -1,46 +1,27 @@
 -- Magnitudes and signs, and products that leave the range: by cases on the sign, each is a statement about natural numbers.
 use Prim.Native.Nat.{ℕ, zero, suc, ◌+◌, ◌-◌, ◌*◌, ◌/◌, ◌%◌, ◌≤◌, ◌<◌}
-use mathlib.Core.Path.{◌≡◌, refl, subst, sym, ap, ◌∙◌}
+use mathlib.Core.Path.{◌≡◌, refl, subst, sym, ap}
 use mathlib.Core.Bool.{Bool, true, false, ◌||◌, or-false}
 use native.Mathlib.Omega.{arith}
 use native.Mathlib.Nat.{suc-mul, mod-lt, div-add-mod', div-mul-le_self, mul-le-mul_right, div-lt_iff_lt-mul}
 use borrow.Author.Tests.{ltb-true, ltb-false, lt-ltb, le-ltb}
 use lib.Dec.{T, ltb}
-use lib.IntN.{ℤ, pos, negsuc, neg_ℤ, nat_abs, ◌-ℤ◌, ◌*ℤ◌, +ℤ_idl}
+use lib.IntN.{ℤ, pos, negsuc, neg_ℤ, nat_abs, ◌*ℤ◌}
 use lib.Signed.{lt_z}
-use mir.Val.{SFits, to_z, of_z}
+use mir.Val.{SFits, to_z}
 use mir.Syntax.{w32}
-use mir.ValLaws.{to_z-of_z}
+use Rattle.lifting.specs.Wrap.{low32, wrap}
 use Rattle.step_sizes.specs.Levels.{signed, quantised, restored, is_out_of_range}
-
-pub negated : (x : ℤ) → pos 0 -ℤ x ≡ neg_ℤ x
-negated x = +ℤ_idl (neg_ℤ x)
 
 -- ---- the two signs
 
-pub negative_magnitude : (x : ℤ) → lt_z x (pos 0) ≡ true → neg_ℤ x ≡ pos (nat_abs x)
-negative_magnitude (pos n) t = absurd (omega (arith, ltb-true n 0 t))
-negative_magnitude (negsuc n) t = refl
-
-pub negative_sign : (x : ℤ) (m : ℕ) → lt_z x (pos 0) ≡ true → signed x m ≡ neg_ℤ (pos m)
+negative_sign : (x : ℤ) (m : ℕ) → lt_z x (pos 0) ≡ true → signed x m ≡ neg_ℤ (pos m)
 negative_sign (pos n) m t = absurd (omega (arith, ltb-true n 0 t))
 negative_sign (negsuc n) m t = refl
 
-pub other_magnitude : (x : ℤ) → lt_z x (pos 0) ≡ false → x ≡ pos (nat_abs x)
-other_magnitude (pos n) t = refl
-other_magnitude (negsuc n) t = absurd (subst (λ (b : Bool). T b) t tt)
-
-pub other_sign : (x : ℤ) (m : ℕ) → lt_z x (pos 0) ≡ false → signed x m ≡ pos m
+other_sign : (x : ℤ) (m : ℕ) → lt_z x (pos 0) ≡ false → signed x m ≡ pos m
 other_sign (pos n) m t = refl
 other_sign (negsuc n) m t = absurd (subst (λ (b : Bool). T b) t tt)
-
-pub magnitude-most : (x : ℤ) → SFits w32 x → nat_abs x ≤ 2147483648
-magnitude-most (pos n) f = omega (arith, f.sfits)
-magnitude-most (negsuc n) f = omega (arith, f.sfits)
-
--- a magnitude that was worked out of a local
-pub magnitude-of : {r : ℕ} {x : ℤ} → SFits w32 x → r ≡ nat_abs (to_z w32 (of_z w32 x)) → (r ≡ nat_abs x) × (r ≤ 2147483648)
-magnitude-of {r} {x} f e = let q = e ∙ ap nat_abs (to_z-of_z w32 x f) in (q, omega (arith, q, magnitude-most x f))
 
 pub negative_fits : (m : ℕ) → m ≤ 2147483648 → SFits w32 (neg_ℤ (pos m))
 negative_fits zero h = record { sfits = omega arith }
@@ -54,6 +35,21 @@ neg_times (suc q) s = refl
 pub sign_fits : (x : ℤ) (m : ℕ) → SFits w32 x → m ≤ nat_abs x → SFits w32 (signed x m)
 sign_fits (pos n) m f h = record { sfits = omega (arith, f.sfits) }
 sign_fits (negsuc n) m f h = negative_fits m (omega (arith, f.sfits))
+
+-- ---- a magnitude with a sign, in 32 bits
+
+negative_low : (m : ℕ) → m < 4294967296 → low32 (neg_ℤ (pos m)) ≡ (4294967296 - m) % 4294967296
+negative_low zero h = omega arith
+negative_low (suc m) h = omega arith
+
+-- the number of 32 bits, and that number negated
+pub kept_sign : (x : ℤ) (m : ℕ) → m < 4294967296 → lt_z x (pos 0) ≡ false → wrap (signed x m) ≡ to_z w32 m
+unfolding wrap
+kept_sign x m h t = rw (other_sign x m t) (ap (to_z w32) (omega arith))
+
+pub turned_sign : (x : ℤ) (m : ℕ) → m < 4294967296 → lt_z x (pos 0) ≡ true → wrap (signed x m) ≡ to_z w32 ((4294967296 - m) % 4294967296)
+unfolding wrap
+turned_sign x m h t = rw (negative_sign x m t) (ap (to_z w32) (negative_low m h))
 
 -- ---- products outside the range
 
@@ -91,15 +87,12 @@ pub in_range : (z : ℤ) → is_out_of_range z ≡ false → SFits w32 z
 in_range (pos n) e = record { sfits = omega (arith, ltb-false 2147483647 n e) }
 in_range (negsuc n) e = record { sfits = omega (arith, ltb-false 2147483647 n e) }
 
--- ---- the product of a coefficient's level, by the sign
+-- ---- the product of a coefficient's level
 
-pub negative_product : (s : ℕ) (x : ℤ) → lt_z x (pos 0) ≡ true → restored s (quantised s x) ≡ neg_ℤ (pos ((nat_abs x + s / 2) / s * s))
+pub signed_product : (s : ℕ) (x : ℤ) → signed x ((nat_abs x + s / 2) / s * s) ≡ restored s (quantised s x)
 unfolding quantised
-negative_product s x t = rw (negative_sign x ((nat_abs x + s / 2) / s) t) (neg_times ((nat_abs x + s / 2) / s) s)
-
-pub other_product : (s : ℕ) (x : ℤ) → lt_z x (pos 0) ≡ false → restored s (quantised s x) ≡ pos ((nat_abs x + s / 2) / s * s)
-unfolding quantised
-other_product s x t = rw (other_sign x ((nat_abs x + s / 2) / s) t)
+signed_product s (pos n) = refl
+signed_product s (negsuc n) = sym (neg_times ((suc n + s / 2) / s) s)
 
 -- ---- coefficients whose level has a product outside the range
 

@@ -1,39 +1,26 @@
 // One coefficient quantised, and one level restored.
-ghost use Rattle.std.specs.Prelude.{◌≡◌, false, ◌||◌, ◌≤◌, ◌<◌, nat_abs};
-ghost use Rattle.std.specs.Int.Signed.{lt_z};
+ghost use Rattle.std.specs.Prelude.{◌≡◌, false, ◌||◌, ◌≤◌};
 ghost use Rattle.step_sizes.specs.Steps.{largest_step};
+ghost use Rattle.std.specs.Int.Signed.{lt_z};
+ghost use Rattle.lifting.specs.Wrap.{wrap};
 ghost use Rattle.step_sizes.specs.Levels.{signed, quantised, restored, is_out_of_range};
-ghost use Rattle.step_sizes.specs.Parts.{Divides, LimitsOf};
+ghost use Rattle.step_sizes.specs.Parts.{LimitsOf};
 
 use crate::division::{Divisor, divide};
+use crate::table::StepSize;
 
-pub fn magnitude(x: i32) -> u32
-    ensures { result ≡ nat_abs x }
+// The sign of x with another magnitude, reduced into the signed 32-bit range.
+pub(crate) fn with_sign(x: i32, magnitude: u32) -> i32
+    ensures { result ≡ wrap (signed x magnitude) }
 {
-    if x < 0 {
-        (0 - (x as i64)) as u32
-    } else {
-        x as u32
-    }
+    let value = magnitude.cast_signed();
+    if x < 0 { value.wrapping_neg() } else { value }
 }
 
-// The sign of x with another magnitude, which is no larger.
-fn with_sign(x: i32, magnitude: u32) -> i32
-    requires { magnitude ≤ nat_abs x }
-    ensures { result ≡ signed x magnitude }
+pub fn quantise_number(x: i32, by: &Divisor) -> i32
+    ensures { result ≡ quantised by.now.step x }
 {
-    if x < 0 {
-        (0 - (magnitude as i64)) as i32
-    } else {
-        magnitude as i32
-    }
-}
-
-pub fn quantise_number(x: i32, by: Divisor) -> i32
-    requires { Divides by }
-    ensures { result ≡ quantised by.step x }
-{
-    with_sign(x, divide(magnitude(x) + by.step / 2, by))
+    with_sign(x, divide(x.unsigned_abs() + by.step.get() / 2, by))
 }
 
 // The least and the greatest number of a range.
@@ -43,20 +30,23 @@ pub struct Limits {
     pub most: i32,
 }
 
-pub fn outside(x: i32, limits: Limits) -> bool
-    ensures { result ≡ (lt_z x limits.least || lt_z limits.most x) }
-{
-    (x < limits.least) | (limits.most < x)
+impl Limits {
+    // Whether x is outside. Both ends are looked at, so that walks go by fours.
+    pub fn exclude(self, x: i32) -> bool
+        ensures { result ≡ (lt_z x self.least || lt_z self.most x) }
+    {
+        (x < self.least) | (self.most < x)
+    }
 }
 
 // The levels whose product with the step is in the signed 32-bit range.
-pub fn limits_of(step: u32) -> Limits
-    requires { 0 < step }
+pub fn limits_of(step: StepSize) -> Limits
     ensures { LimitsOf step result }
 {
+    let step = step.get() as i32;
     Limits {
-        least: (0 - ((2147483648 / step) as i64)) as i32,
-        most: (2147483647 / step) as i32,
+        least: i32::MIN / step,
+        most: i32::MAX / step,
     }
 }
 

@@ -1,7 +1,8 @@
 // The table of steps: index 0 to 255.
-ghost use Rattle.std.specs.Prelude.{◌≡◌, ◌≤◌, ◌<◌, length};
-ghost use Rattle.step_sizes.specs.Steps.{step_of, step_answer};
-ghost use Rattle.step_sizes.specs.Parts.{Entry};
+ghost use Rattle.std.specs.Prelude.{◌≡◌, ◌≤◌, ◌<◌};
+ghost use Rattle.step_sizes.specs.Steps.{step_of, step_answer, largest_step};
+
+use std::marker::Model;
 
 const STEPS: [u32; 256] = [
     1, 1, 2, 3, 4, 5, 6, 7, 8, 9, 10, 11, 12, 13, 14, 15, 16, 17, 18, 19, 20, 21, 22, 23, 24, 25,
@@ -22,27 +23,58 @@ const STEPS: [u32; 256] = [
     360448, 376832, 393216, 409600, 425984, 442368, 458752, 475136, 491520, 507904,
 ];
 
-fn entry(table: &[u32], at: usize) -> u32
-    requires { at < length table.now }
-    ensures { Entry table.now at result }
-{
-    table[at]
+// A step that divides and multiplies: at least 1, and at most the largest of the table. Contracts see it as the plain number.
+#[derive(Clone, Copy)]
+pub struct StepSize {
+    size: u32,
+}
+
+impl Model for StepSize {
+    ghost use Rattle.std.specs.Prelude.{ℕ, ◌≤◌, ◌<◌};
+    ghost use Rattle.step_sizes.specs.Steps.{largest_step};
+
+    ghost Value = { ℕ };
+
+    ghost view = { λ step. step.size };
+
+    ghost invariant = { λ step. (0 < step.size) × (step.size ≤ largest_step) };
+
+    ghost inverse = { λ size. record { size = size } };
+}
+
+impl StepSize {
+    pub fn new(size: u32) -> StepSize
+        requires positive { 0 < size }
+        requires most { size ≤ largest_step }
+        ensures { result ≡ size }
+    {
+        StepSize { size }
+    }
+
+    pub fn get(self) -> u32
+        ensures value { result ≡ self }
+        ensures positive { 0 < self }
+        ensures most { self ≤ largest_step }
+    {
+        self.size
+    }
 }
 
 // The step of an index of the table.
-pub fn step(index: u32) -> u32
-    requires { index ≤ 255 }
+pub fn step(index: u8) -> StepSize
     ensures { result ≡ step_of index }
 {
-    entry(&STEPS, index as usize)
+    StepSize {
+        size: STEPS[index as usize],
+    }
 }
 
 // The step of any index: 0 where the table has none.
 pub fn step_or_zero(index: u32) -> u32
     ensures { result ≡ step_answer index }
 {
-    if 255 < index {
-        return 0;
+    match u8::try_from(index) {
+        Ok(index) => step(index).get(),
+        Err(_) => 0,
     }
-    step(index)
 }

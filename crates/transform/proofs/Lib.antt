@@ -14,6 +14,7 @@ pub mod WholePictures
 pub mod Squares
 pub mod Alone
 pub mod Told
+pub mod Walks
 pub mod NoWrap
 pub mod Sanity
 pub mod BothWays

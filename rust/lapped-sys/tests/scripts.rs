@@ -61,18 +61,16 @@ const PROVED: &str = "#!/bin/sh
 } >&2
 ";
 
-/// How many crates are to be proved: the program and all that lies below it.
+/// How many crates are to be proved: the program and all that lies below it, but for what the kit
+/// brings, which has no line.
 fn crates_of_samples() -> usize {
     let list = fs::read_to_string(root().join("crates.txt")).unwrap();
-    let uses = |name: &str| -> Vec<String> {
-        let line = list.lines().find_map(|line| line.strip_prefix(&format!("{name}:"))).unwrap();
-        line.split_whitespace().map(String::from).collect()
-    };
-    let mut below = vec!["samples".to_string()];
+    let line_of = |name: &str| list.lines().find_map(|line| line.strip_prefix(&format!("{name}:")));
+    let mut below = vec!["samples"];
     let mut next = 0;
     while next < below.len() {
-        for name in uses(&below[next]) {
-            if !below.contains(&name) {
+        for name in line_of(below[next]).unwrap().split_whitespace() {
+            if line_of(name).is_some() && !below.contains(&name) {
                 below.push(name);
             }
         }

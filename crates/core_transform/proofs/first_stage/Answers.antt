@@ -6,4 +6,4 @@ use Rattle.core_transform.proofs.Stages.{quarter-run}
 use Rattle.core_transform.proofs.first_stage.Goals as goal
 
 pub returns : goal.returns
-returns c3 = let c2 = c3.before in let c1 = c2.before in c3.quartered.ensures ∙ (quarter-run _ _ c2.quarter_stage.ensures).0 ∙ ap (run quarter_stage) c1.quarters.ensures
+returns c3 = let c2 = c3.before in let c1 = c2.before in c3.quartered.ensures ∙ (quarter-run _ _ c2.quarter_stage_told.ensures.done).0 ∙ ap (run quarter_stage) c1.quarters.ensures

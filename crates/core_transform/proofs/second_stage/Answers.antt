@@ -7,6 +7,6 @@ use Rattle.core_transform.proofs.second_stage.Goals as goal
 
 pub returns : goal.returns
 returns c3 = let c2 = c3.before in let c1 = c2.before in record {
-  done = c3.mirrored.ensures ∙ (mirrored-run _ _ c2.hadamards.ensures.done).0 ∙ ap (run core_mirrored_stage) c1.split.ensures;
-  undone = c3.mirrored.ensures ∙ (mirrored-undo _ _ c2.hadamards.ensures.undone).0 ∙ ap (undo core_mirrored_stage) c1.split.ensures;
+  done = c3.mirrored.ensures ∙ (mirrored-run _ _ c2.hadamards_told.ensures.done).0 ∙ ap (run core_mirrored_stage) c1.split.ensures;
+  undone = c3.mirrored.ensures ∙ (mirrored-undo _ _ c2.hadamards_told.ensures.undone).0 ∙ ap (undo core_mirrored_stage) c1.split.ensures;
 }

@@ -1,10 +1,10 @@
--- Before place i, all are near as far as all before the first were and none since was far.
-use Prim.Native.Nat.{◌≤◌}
+-- It is known whether one of the pairs so far is far.
 use mathlib.Core.Path.{◌≡◌}
-use mathlib.Core.Bool.{not, ◌&&◌}
+use mathlib.Core.Bool.{not}
+use lib.ListN.{length}
 use Rattle.lifting.specs.Tests.{all}
 use Rattle.differences.specs.Near.{near}
 use Rattle.differences.proofs.some_far.Given as goal
 
-abbrev pub invariant-loop-i : goal.invariant-loop-i
-invariant-loop-i l = (l.from ≤ l.i) × (l.i ≤ l.i-end) × (all l.i (near l.tolerance l.a l.b) ≡ all l.from (near l.tolerance l.a l.b) && not l.far)
+abbrev pub invariant-loop-x : goal.invariant-loop-x
+invariant-loop-x l = l.far ≡ not (all (length l.yielded) (near l.tolerance l.a l.b))

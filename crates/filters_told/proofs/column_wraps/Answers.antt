@@ -1,48 +1,35 @@
--- No use before j wraps; the walk ends at the first that does. Each use lies inside the grid.
-use Prim.Native.Nat.{ℕ, ◌+◌, ◌*◌, ◌-◌, ◌≤◌, ◌<◌}
-use mathlib.Core.Path.{◌≡◌, ◌∙◌, ap}
+-- The walk ends at the first use that wraps. Each use lies inside the grid.
+use Prim.Native.Nat.{ℕ, ◌+◌, ◌-◌, ◌*◌, ◌≤◌}
+use mathlib.Core.Path.{◌≡◌, refl, ap}
 use native.Mathlib.Omega.{arith}
 use lib.ListN.{length}
+use Rattle.std.proofs.Common.{rules}
+use Rattle.std.proofs.lemmas.Iterator.{serves_from_Range}
 use Rattle.lifting.specs.Wraps.{undo_wraps}
 use Rattle.lifting.specs.AnyUse.{any_use}
-use Rattle.lifting.proofs.AnyUse.{walk_begins, walk_goes_on, walk_finds, walk_ends}
 use Rattle.transform.specs.Level.{cell, four_filter_at, column_filters}
+use Rattle.transform.proofs.Walks.{any_below, any_of_uses}
 use Rattle.grid.proofs.Rows.{row_inside}
-use Rattle.filters_told.proofs.column_wraps.Invariants.{use_of}
 use Rattle.filters_told.proofs.column_wraps.Goals as goal
-use Rattle.filters_told.proofs.column_wraps.Goals.{After-four_wraps, At-loop-j}
-
-room : (c : At-loop-j) → c.loop-j.j < c.before.args.q - 1 → (c.loop-j.j + 1) * (16 * c.before.args.p) + 16 * c.before.args.p ≤ length c.before.args.grid.now
-room c h = let a = c.before.args in omega (arith, row_inside (c.loop-j.j + 1) a.q (16 * a.p) (omega arith))
 
 place : (p c j : ℕ) → 2 * (4 * p) + c + j * (4 * (4 * p)) ≡ cell p (4 * j + 2) c
 place p c j = omega arith
 
-told : (c : After-four_wraps) → let l = c.before.before in let a = l.before.args in c.four_wraps.result ≡ any_use undo_wraps (use_of a.p a.c l.loop-j.j) a.grid.now
-told c =
-    let l = c.before.before in
-    let a = l.before.args in
-    c.four_wraps.ensures ∙ ap (λ (k : ℕ). any_use undo_wraps (four_filter_at (4 * a.p) k) a.grid.now) (place a.p a.c l.loop-j.j)
-
-pub returns-then-four_wraps : goal.returns-then-four_wraps
-unfolding column_filters
-returns-then-four_wraps c = let b = c.before in let l = b.before.before in walk_finds _ l.loop-j.invariant (omega arith) (told b) c.if-four_wraps.true
-
-pub loop-j-preserved : goal.loop-j-preserved
-loop-j-preserved c = let b = c.before in walk_goes_on b.before.before.loop-j.invariant (told b) c.if-four_wraps.false (omega arith)
+pub any-requires-clause-callable : goal.any-requires-clause-callable
+any-requires-clause-callable c =
+    let a = c.args in
+    serves_from_Range (λ x q k. search rules)
+    (λ x l h. let room : (x + 1) * (16 * a.squares.across) + 16 * a.squares.across ≤ length a.grid.now = omega (arith, row_inside (x + 1) a.squares.down (16 * a.squares.across) (omega (arith, h)), c.requires.long) in (
+      λ κs p g e r n u f v. record { fits = omega (arith, a.squares.most_wide) },
+      λ κs p g e r n u f v. record { fits = omega (arith, room, n.0) },
+      λ κs p g e r n u f v. record { fits = omega (arith, room, n.0, c.requires.c_bound) },
+      λ κs p g e r n u f v k. omega (arith, room, c.requires.c_bound),
+    ))
 
 pub returns : goal.returns
 unfolding column_filters
-returns c = walk_ends _ c.before.loop-j.invariant (omega arith)
-
-pub loop-j-init : goal.loop-j-init
-loop-j-init c = walk_begins (omega arith)
-
-pub overflow_mul-j : goal.overflow_mul-j
-overflow_mul-j c = omega (arith, room c.before (omega arith))
-
-pub overflow_add-first-in-loop-j : goal.overflow_add-first-in-loop-j
-overflow_add-first-in-loop-j c = omega (arith, room c.before (omega arith))
-
-pub four_wraps-requires : goal.four_wraps-requires
-four_wraps-requires c = omega (arith, room c.before (omega arith))
+returns c =
+    let a = c.args in
+    any_of_uses undo_wraps (a.squares.down - 1) (λ j. four_filter_at (4 * a.squares.across) (2 * (4 * a.squares.across) + a.c + j * (4 * (4 * a.squares.across)))) _ a.grid.now
+    (any_below (a.squares.down - 1) (λ j. any_use undo_wraps (four_filter_at (4 * a.squares.across) (2 * (4 * a.squares.across) + a.c + j * (4 * (4 * a.squares.across)))) a.grid.now) refl refl c.any.ensures.ran (λ x q k. search rules) (λ x b q l k. search rules))
+    (λ j. ap (four_filter_at (4 * a.squares.across)) (place a.squares.across a.c j))

@@ -9,6 +9,5 @@ use Rattle.filters_told.proofs.corner_wraps.Goals as goal
 pub returns : goal.returns
 unfolding corner_filter_at
 returns c =
-    let g = c.before in
-    let a = g.before.args in
-    use_told undo_wraps FourFilter four_filter (corner a.w a.at) a.grid.now c.unfiltered_wraps.ensures g.get_corner.ensures
+    let a = c.args in
+    use_told undo_wraps FourFilter four_filter (corner a.w a.at) a.grid.now c.unfiltered_wraps.ensures c.get_corner.ensures

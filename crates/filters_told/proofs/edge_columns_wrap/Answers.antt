@@ -5,7 +5,4 @@ use Rattle.filters_told.proofs.edge_columns_wrap.Goals as goal
 
 pub returns : goal.returns
 returns c =
-    let c3 = c.before in
-    let c2 = c3.before in
-    let c1 = c2.before in
-    four-told undo_wraps _ _ _ _ _ c1.column_wraps-first.ensures c2.column_wraps-second.ensures c3.column_wraps-third.ensures c.column_wraps-fourth.ensures
+    four-told undo_wraps _ _ _ _ _ c.column_wraps-first.ensures c.column_wraps-second.ensures c.column_wraps-third.ensures c.column_wraps-fourth.ensures

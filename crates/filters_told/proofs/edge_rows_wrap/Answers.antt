@@ -5,7 +5,4 @@ use Rattle.filters_told.proofs.edge_rows_wrap.Goals as goal
 
 pub returns : goal.returns
 returns c =
-    let c3 = c.before in
-    let c2 = c3.before in
-    let c1 = c2.before in
-    four-told undo_wraps _ _ _ _ _ c1.row_wraps-first.ensures c2.row_wraps-second.ensures c3.row_wraps-third.ensures c.row_wraps-fourth.ensures
+    four-told undo_wraps _ _ _ _ _ c.row_wraps-first.ensures c.row_wraps-second.ensures c.row_wraps-third.ensures c.row_wraps-fourth.ensures

@@ -9,6 +9,5 @@ use Rattle.filters_told.proofs.four_wraps.Goals as goal
 pub returns : goal.returns
 unfolding four_filter_at
 returns c =
-    let g = c.before in
-    let a = g.before.args in
-    use_told undo_wraps FourFilter four_filter (strip a.step a.at) a.grid.now c.unfiltered_wraps.ensures g.get_four.ensures
+    let a = c.args in
+    use_told undo_wraps FourFilter four_filter (strip a.step a.at) a.grid.now c.unfiltered_wraps.ensures c.get_four.ensures

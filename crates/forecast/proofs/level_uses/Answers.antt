@@ -1,17 +1,11 @@
--- What is computed are the counts of a level, which are its uses. Each factor is at most that of the largest picture, and so are the products.
+-- What is computed are the counts of a level, which are its uses.
+use mathlib.Core.Path.{sym}
 use mathlib.Core.Bool.{true, false}
-use native.Mathlib.Omega.{arith}
-use Rattle.forecast.proofs.Levels.{few_fit, found_counts}
+use Rattle.forecast.proofs.Levels.{level_claim}
 use Rattle.forecast.proofs.level_uses.Goals as goal
 
-pub returns-then-filtered : goal.returns-then-filtered
-returns-then-filtered c = let a = c.before.args in found_counts a.filtered true a.p a.q c.if-filtered.true c.before.requires
+pub returns-then-filtered-clause-value : goal.returns-then-filtered-clause-value
+returns-then-filtered-clause-value c = rw c.if-filtered.true (sym (level_claim true c.args.p c.args.q))
 
-pub returns : goal.returns
-returns c = let a = c.before.args in found_counts a.filtered false a.p a.q c.if-filtered.false c.before.requires
-
-pub overflow_mul-cores : goal.overflow_mul-cores
-overflow_mul-cores c = few_fit c.requires (omega arith) (omega arith)
-
-pub overflow_mul-result : goal.overflow_mul-result
-overflow_mul-result c = few_fit c.before.requires (omega arith) (omega arith)
+pub returns-clause-value : goal.returns-clause-value
+returns-clause-value c = rw c.if-filtered.false (sym (level_claim false c.args.p c.args.q))

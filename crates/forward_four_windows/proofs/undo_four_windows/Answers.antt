@@ -1,17 +1,12 @@
--- Held in lanes, undone lane by lane, and moved out.
-use Rattle.lanes.proofs.Rows.{lanes_held}
+-- Each square undone, and moved out.
+use borrow.Author.Rules.{rules}
+use Rattle.lifting.specs.Program.{undo}
+use Rattle.figures.specs.Figures.{square_filter}
+use Rattle.lanes.proofs.Beside.{squares_by}
 use Rattle.forward_four_windows.proofs.Moved.{windows_moved}
 use Rattle.forward_four_windows.proofs.undo_four_windows.Goals as goal
 
 pub returns : goal.returns
 returns c =
-    let moved = c.before in
-    let undone = moved.before.before.before.before in
-    let fourth = undone.before.before.before.before.before.before.before in
-    let third = fourth.before.before.before in
-    let second = third.before.before.before in
-    let first = second.before.before.before in
-    let a = first.before.before.args in
-    windows_moved a.grid.now a.w a.at a.to _ _ a.strip.now _
-    (lanes_held a.grid.now _ _ _ _ a.w a.at first.hold.ensures second.hold-2.ensures third.hold-3.ensures fourth.hold-4.ensures)
-    undone.undo_lanes.ensures moved.move_rows.ensures
+    let a = c.args in
+    windows_moved a.grid.now a.w a.at a.to _ a.strip.now _ (squares_by (undo square_filter) (λ b d post. search rules) c.each_square-out.ensures) c.move_squares.ensures

@@ -4,13 +4,6 @@ use Rattle.forward_kernel.proofs.move_lane.Goals as goal
 
 pub returns : goal.returns
 returns c =
-    let d = c.before in
-    let d' = d.before in
-    let e = d'.before.before.before in
-    let e' = e.before in
-    let f = e'.before.before.before in
-    let f' = f.before in
-    let g = f'.before.before.before in
-    let g' = g.before in
-    let s = g'.before.before in
-    lane_moved s.args.l s.args.from s.args.out.now s.args.rest.now g'.get_four.result f'.get_four-2.result e'.get_four-3.result d'.get_four-4.result s.requires.from_in_bounds g'.get_four.ensures f'.get_four-2.ensures e'.get_four-3.ensures d'.get_four-4.ensures g.put_four.ensures f.put_four-2.ensures e.put_four-3.ensures d.put_four-4.ensures
+    let a = c.args in
+    lane_moved a.l a.from a.out.now a.rest.now c.get_four.result c.get_four-2.result c.get_four-3.result c.get_four-4.result c.requires.from_in_bounds
+    c.get_four.ensures c.get_four-2.ensures c.get_four-3.ensures c.get_four-4.ensures c.put_four.ensures c.put_four-2.ensures c.put_four-3.ensures c.put_four-4.ensures

@@ -6,9 +6,5 @@ use Rattle.forward_kernel.proofs.move_lanes.Goals as goal
 pub returns : goal.returns
 returns c =
     λ b h.
-    let fourth = c.before in
-    let third = fourth.before.before.before in
-    let second = third.before.before.before in
-    let first = second.before.before.before in
-    blocks_placed b first.before.before.args.from (first.move_lane.ensures (b 0) (h 0 (omega arith))) (second.move_lane-2.ensures (b 1) (h 1 (omega arith)))
-    (third.move_lane-3.ensures (b 2) (h 2 (omega arith))) (fourth.move_lane-4.ensures (b 3) (h 3 (omega arith)))
+    blocks_placed b c.args.from (c.move_lane.ensures (b 0) (h 0 (omega arith))) (c.move_lane-2.ensures (b 1) (h 1 (omega arith)))
+    (c.move_lane-3.ensures (b 2) (h 2 (omega arith))) (c.move_lane-4.ensures (b 3) (h 3 (omega arith)))

@@ -1,26 +1,18 @@
 -- One macroblock after another: those before the next are there.
-use mathlib.Core.Path.{sym, ◌∙◌}
+use Prim.Native.Nat.{◌+◌}
+use mathlib.Core.Path.{◌∙◌, ap}
 use native.Mathlib.Omega.{arith}
+use Rattle.std.proofs.Common.{rules}
+use Rattle.lifting.specs.Program.{at}
 use Rattle.lanes.proofs.Beside.{beside_more}
+use Rattle.forward_kernel.specs.Placed.{block_in}
+use Rattle.forward_kernel.proofs.Stores.{same_block}
 use Rattle.forward_one_cores.proofs.Stores.{length-block}
 use Rattle.forward_one_cores.proofs.get_blocks.Goals as goal
 
 pub loop-l-preserved : goal.loop-l-preserved
+unfolding block_in
 loop-l-preserved c =
-    let d = c.before in
-    let g = d.before in
-    let l = g.before.before.before in
-    let v = l.loop-l.invariant in
-    (omega arith, d.put_square.auto.grid ∙ v.1, beside_more _ l.loop-l.l _ _ _ (omega arith) v.1 g.get_block.ensures (length-block _ _ _) d.put_square.ensures v.2)
-
-pub loop-l-init : goal.loop-l-init
-loop-l-init c = (omega arith, c.requires.n_bound.1, λ l h. absurd (omega (arith, h)))
-
-pub get_block-requires : goal.get_block-requires
-get_block-requires c = let s = c.before.before.before in let r = s.requires.room.0 in (record { of-dc = omega arith; of_low = omega arith }, omega (arith, s.requires.room.1))
-
-pub shape_of-held : goal.shape_of-held
-shape_of-held c = c.before.loop-l.invariant.1 ∙ sym c.before.before.requires.n_bound.1
-
-pub returns : goal.returns
-returns c = λ l h. c.before.loop-l.invariant.2 l (omega (arith, h))
+    beside_more _ c.loop-l.l _ _ _ (omega arith) (search rules)
+    (c.coefficient_block.ensures ∙ same_block _ _ (search rules) (λ k h. ap (at c.args.low.now) (omega (arith, c.requires.room.1))))
+    (length-block c.args.dc.now c.args.low.now (c.args.t + c.loop-l.l)) c.put_square.ensures c.loop-l.invariant

@@ -1,5 +1,5 @@
 -- What the loop keeps, and its measure.
-use Prim.Native.Nat.{◌-◌, ◌*◌, ◌≤◌}
+use Prim.Native.Nat.{◌+◌, ◌-◌, ◌*◌, min}
 use mathlib.Core.Path.{◌≡◌}
 use lib.ListN.{length}
 use Rattle.lifting.specs.Program.{undo}
@@ -10,8 +10,8 @@ use Rattle.forward_one_cores.proofs.undo_cores.Given as goal
 
 abbrev pub invariant-loop-t : goal.invariant-loop-t
 invariant-loop-t l =
-    (l.t ≤ l.all) × (length l.dc ≡ length l.initial.dc) × (length l.low ≡ length l.initial.low)
-    × Replaced 0 l.t (λ s. undo core (block_in l.initial.dc l.initial.low s)) (block_in l.initial.dc l.initial.low) (block_in l.dc l.low) × (l.from ≡ 15 * l.t)
+    (length l.dc ≡ length l.initial.dc) × (length l.low ≡ length l.initial.low)
+    × Replaced 0 (min l.t l.all) (λ s. undo core (block_in l.initial.dc l.initial.low s)) (block_in l.initial.dc l.initial.low) (block_in l.dc l.low) × (l.from ≡ 15 * l.t)
 
 abbrev pub decreases-loop-t : goal.decreases-loop-t
-decreases-loop-t l = l.all - l.t
+decreases-loop-t l = l.all + 4 - l.t

@@ -10,13 +10,9 @@ use Rattle.forward_one_cores.proofs.undo_group.Goals as goal
 
 pub returns : goal.returns
 returns c =
-    let d = c in
-    let u = c in
-    let g = c in
-    let s = c in
-    let a = s.args in
-    let e = u.undo_four_cores-zeros.ensures in
+    let a = c.args in
+    let e = c.undo_four_cores-zeros.ensures in
     replaced_as a.t a.n (λ m. undo core (block_in a.dc.now a.low.now m)) refl refl
     (λ m h k.
-    lane_undone _ _ _ _ _ (m - a.t) (omega (arith, s.requires.n_bound)) e.by_index e.placed (g.get_blocks.ensures (m - a.t) (omega arith) ∙ ap (block_in a.dc.now a.low.now) (omega arith)))
-    d.move_blocks.ensures
+    lane_undone _ _ _ _ _ (m - a.t) (omega (arith, c.requires.n_bound)) e.by_index e.placed (c.get_blocks.ensures (m - a.t) (omega arith) ∙ ap (block_in a.dc.now a.low.now) (omega arith)))
+    c.move_blocks.ensures

@@ -1,26 +1,12 @@
--- The filters and then the cores, or the cores alone; either way the samples were looked at.
+-- The filters and then the cores, or the cores alone.
 use mathlib.Core.Path.{refl}
 use Rattle.forward_kernel.proofs.Level.{level_filtered, level_plain}
 use Rattle.forward_two_edges.specs.Unfiltered.{unfiltered}
 use Rattle.forward_two.proofs.undo_level_two.Goals as goal
 
-pub returns-then-filtered : goal.returns-then-filtered
+pub returns-then-filtered-clause-high_after : goal.returns-then-filtered-clause-high_after
 unfolding unfiltered
-returns-then-filtered c =
-    let d = c.before.before.before in
-    let t = d.before.before.before.before in
-    let a = t.before.args in
-    record {
-      high_after = level_filtered a.filtered _ _ a.samples.now t.if-filtered.true refl d.undo_filtered.ensures.high_after;
-      within = d.undo_filtered.ensures.within;
-    }
+returns-then-filtered-clause-high_after c = level_filtered c.args.filtered _ _ c.args.samples.now c.if-filtered.true refl c.undo_filtered.ensures.high_after
 
-pub returns : goal.returns
-returns c =
-    let d = c.before.before.before in
-    let t = d.before.before.before.before in
-    let a = t.before.args in
-    record {
-      high_after = level_plain a.filtered _ _ a.samples.now t.if-filtered.false d.undo_cores.ensures.high_after;
-      within = d.undo_cores.ensures.within;
-    }
+pub returns-else-filtered-clause-high_after : goal.returns-else-filtered-clause-high_after
+returns-else-filtered-clause-high_after c = level_plain c.args.filtered _ _ c.args.samples.now c.if-filtered.false c.undo_cores.ensures.high_after

@@ -9,4 +9,4 @@ use Rattle.forward_two_parked.proofs.fetch_macroblock.Given as goal
 
 abbrev pub invariant-loop-k : goal.invariant-loop-k
 invariant-loop-k l =
-    (l.k ≤ 4) × ((i j : ℕ) → i < l.k → j < 8 → at l.strip (place_in 0 l.b i j) ≡ at (block_of l.dc l.low l.high (16 * l.cells.dc + i)) j) × Kept 0 2 (16 * l.b) (16 * l.b + 16) l.initial.strip l.strip
+    (l.k ≤ 4) × ((i j : ℕ) → i < l.k → j < 8 → at l.strip (place_in 0 l.b i j) ≡ at (block_of l.planes.dc l.planes.low l.planes.high (16 * l.cells.dc + i)) j) × Kept 0 2 (16 * l.b) (16 * l.b + 16) l.initial.strip l.strip

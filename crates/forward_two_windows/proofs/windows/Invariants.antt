@@ -5,4 +5,5 @@ use Rattle.forward_two_windows.proofs.windows.Given as goal
 
 abbrev pub invariant-loop-v : goal.invariant-loop-v
 invariant-loop-v l =
-    (l.v ≤ l.down) × Holds l.size l.samples l.r l.c 2 (4 * l.v + 2) 2 (4 * l.n + 2) l.strip × Kept 2 (4 * l.down + 2) 2 72 l.initial.strip l.strip × Stands l.size l.r l.c (4 * l.v + 2) 0 l.row
+    (l.v ≤ l.down) × Holds l.here.size l.samples l.here.r l.here.c 2 (4 * l.v + 2) 2 (4 * l.n + 2) l.strip × Kept 2 (4 * l.down + 2) 2 72 l.initial.strip l.strip
+    × Stands l.here.size l.here.r l.here.c (4 * l.v + 2) 0 l.row

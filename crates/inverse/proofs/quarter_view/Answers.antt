@@ -1,51 +1,34 @@
--- The checks of mode and size refuse, or give the mode; then those of the lengths decide.
-use mathlib.Core.Path.{sym, ◌∙◌}
-use mathlib.Core.Bool.{Bool, false}
-use mathlib.Core.List.{List, ◌++◌}
-use Prim.Native.Nat.{ℕ}
-use lib.IntN.{ℤ}
-use Rattle.picture.specs.declared.mode.Mode.{Mode}
-use Rattle.picture.specs.Sizes.{macroblocks}
-use Rattle.picture.specs.Modes.{mode_of}
-use Rattle.picture.specs.Numbers.{low_checks, view_check, quarter_number}
+-- The checks in their order, as those of the inverse.
+use Rattle.std.proofs.Common.{rules}
+use Rattle.std.proofs.lemmas.Result.{err_from_is_err_and}
+use Rattle.picture.specs.Numbers.{shape_checks, quarter_number}
+use Rattle.picture.proofs.AnswerLaws.{refused-before}
 use Rattle.transform.specs.Transform.{quarter_by}
 use Rattle.transform.specs.Wraps.{quarter_wraps_by}
-use Rattle.picture.proofs.CheckLaws.{answers, refused_call, ready_call, ready-sized}
 use Rattle.inverse.proofs.quarter_view.Goals as goal
-use Rattle.inverse.proofs.quarter_view.Goals.{Start}
 
--- the checks of the lengths
-abbrev rest : Start → List ℕ
-rest s = low_checks (macroblocks s.args.size) s.args.dc.now s.args.low.now ++ view_check (macroblocks s.args.size) s.args.view.now
-
-abbrev result : Start → Mode → List ℤ
-result s m = quarter_by m s.args.size s.args.dc.now s.args.low.now
-
-abbrev told : Start → Mode → Bool
-told s m = quarter_wraps_by m s.args.size s.args.dc.now s.args.low.now
-
-pub quarter_sized-requires : goal.quarter_sized-requires
-quarter_sized-requires c =
-    let s = (goal.at.quarter_sized-requires c).Start in
-    ready-sized s.args.mode s.args.size (rest s) (sym c.in-Ready.is ∙ answers s.args.mode c.check_shape.ensures)
-
-pub returns-in-Refused : goal.returns-in-Refused
+pub returns-in_err-frame-clause-number : goal.returns-in_err-frame-clause-number
 unfolding quarter_number
-returns-in-Refused c =
-    let s = (goal.at.returns-in-Refused c).Start in
-    let e = sym c.in-Refused.is ∙ answers s.args.mode c.check_shape.ensures in
-    let law = refused_call s.args.mode s.args.size (rest s) (result s (mode_of s.args.mode)) s.args.view.now e in
-    rw (c.refused.ensures.0, c.refused.ensures.1) record { number_value = law.0; wrapped_value = (refused_call s.args.mode s.args.size (rest s) (told s (mode_of s.args.mode)) false e).1; view_after = law.1 }
+returns-in_err-frame-clause-number c =
+    let p = err_from_is_err_and c.from_residual.result c.from_residual.ensures.1 in
+    rw (p.1, p.2) (refused-before c.in_err-frame.field-0.0 (shape_checks c.args.mode c.args.size) _ c.in_err-frame.ensures.number)
 
-pub returns-in-Ready : goal.returns-in-Ready
+pub returns-in_err-check_low-clause-number : goal.returns-in_err-check_low-clause-number
 unfolding quarter_number
-returns-in-Ready c =
-    let s = (goal.at.returns-in-Ready c).Start in
-    let e = sym c.in-Ready.is ∙ answers s.args.mode c.check_shape.ensures in
-    let a = c.quarter_sized.ensures in
-    let law = ready_call s.args.mode s.args.size (rest s) e (result s) s.args.view.now a.number_value a.view_after in
-    record {
-      number_value = law.0;
-      wrapped_value = (ready_call s.args.mode s.args.size (rest s) e (told s) false a.number_value a.wrapped_value).1;
-      view_after = law.1;
-    }
+returns-in_err-check_low-clause-number c = search rules
+
+pub returns-then-view-numbers-clause-number : goal.returns-then-view-numbers-clause-number
+unfolding quarter_number
+returns-then-view-numbers-clause-number c = search rules
+
+pub returns-clause-number : goal.returns-clause-number
+unfolding quarter_number
+returns-clause-number c = search rules
+
+pub returns-clause-view_after : goal.returns-clause-view_after
+unfolding quarter_by
+returns-clause-view_after c = search rules
+
+pub returns-clause-wrapped : goal.returns-clause-wrapped
+unfolding quarter_wraps_by
+returns-clause-wrapped c = search rules

@@ -1,5 +1,5 @@
 -- What the loop keeps.
-use Prim.Native.Nat.{ℕ, ◌+◌, ◌*◌, ◌-◌, ◌≤◌}
+use Prim.Native.Nat.{ℕ, ◌+◌, ◌*◌}
 use mathlib.Core.Path.{◌≡◌}
 use lib.ListN.{length}
 use Rattle.lifting.specs.Program.{Program, run, each, ◌then◌}
@@ -11,4 +11,4 @@ abbrev pub pair : ℕ → ℕ → ℕ → Program
 pair p c j = four_filter_at (4 * p) (cell p (4 * j + 2) c) then four_filter_at (4 * p) (cell p (4 * j + 2) (c + 1))
 
 abbrev pub invariant-loop-j : goal.invariant-loop-j
-invariant-loop-j l = (l.j ≤ l.q - 1) × (length l.grid ≡ length l.initial.grid) × (l.grid ≡ run (each l.j (pair l.p l.c)) l.initial.grid)
+invariant-loop-j l = (length l.grid ≡ length l.initial.grid) × (l.grid ≡ run (each l.j (pair l.fn.squares.across l.c)) l.initial.grid)

@@ -3,7 +3,7 @@ use Rattle.lifting.specs.Program.{run_by}
 use Rattle.inverse_levels.proofs.edges_if.Goals as goal
 
 pub returns-then-filtered : goal.returns-then-filtered
-returns-then-filtered c = let c1 = c.before.before.before in rw c1.if-filtered.true c.before.edges.ensures
+returns-then-filtered c = rw c.if-filtered.true c.edges.ensures
 
 pub returns-else-filtered : goal.returns-else-filtered
 unfolding run_by

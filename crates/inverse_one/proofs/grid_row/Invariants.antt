@@ -5,4 +5,6 @@ use Rattle.inverse_one.specs.Rows.{plane_numbers, Between}
 use Rattle.inverse_one.proofs.grid_row.Given as goal
 
 abbrev pub invariant-loop-c : goal.invariant-loop-c
-invariant-loop-c l = (l.c ≤ l.p) × Filled l.p (plane_numbers l.dc l.low) l.initial.view (Between l.m (l.m + l.c)) l.view
+invariant-loop-c l =
+    let W = l.fn.size.width.0 in
+    (l.c ≤ W) × Filled W (plane_numbers l.dc l.low) l.initial.view (Between l.m (l.m + l.c)) l.view

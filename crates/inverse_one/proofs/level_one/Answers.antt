@@ -6,7 +6,4 @@ use Rattle.inverse_one.proofs.level_one.Goals as goal
 
 pub returns : goal.returns
 returns c =
-    let e = c.before in
-    let f = e.before.before.before in
-    let t = f.before.before.before in
-    level_parts _ _ _ _ (t.cores.ensures ∙ ap (run _) t.before.before.before.before.before.first_grid.ensures) f.windows_if.ensures e.edges_if.ensures
+    rw (← c.get-counts.ensures.value) (level_parts _ _ _ _ (c.cores.ensures ∙ ap (run _) (rw (← c.get-counts.ensures.value) at c.first_grid.ensures)) c.windows_if.ensures c.edges_if.ensures)

@@ -25,9 +25,6 @@ Up filtered size old high y v =
 
 abbrev pub invariant-loop-r : goal.invariant-loop-r
 invariant-loop-r l =
-    (0 < l.r) × (l.r ≤ l.size.height.0) × (l.r < l.size.height.0 → l.windows ≡ 4) × (l.r ≡ l.size.height.0 → l.windows ≡ 3) × Up l.filtered l.size l.initial.samples l.high (4 * l.r) l.samples
-    × (l.at ≡ l.r * (256 * l.size.width.0)) × (l.b ≡ l.r * (16 * l.size.width.0)) × (l.from ≡ l.r * (240 * l.size.width.0))
-    × (l.large ≡ false → Small l.high l.from (length l.high))
-
-abbrev pub decreases-loop-r : goal.decreases-loop-r
-decreases-loop-r l = l.r
+    (0 < l.r) × (l.r ≤ l.fn.size.height.0) × (l.r < l.fn.size.height.0 → l.windows ≡ 4) × (l.r ≡ l.fn.size.height.0 → l.windows ≡ 3) × Up l.filtered l.fn.size l.initial.samples l.high (4 * l.r) l.samples
+    × (l.cells.samples ≡ l.r * (256 * l.fn.size.width.0)) × (l.cells.numbers ≡ l.r * (16 * l.fn.size.width.0)) × (l.cells.high ≡ l.r * (240 * l.fn.size.width.0))
+    × (l.large ≡ false → Small l.high l.cells.high (length l.high))

@@ -1,24 +1,6 @@
--- The sum fits 64 bits, and is reduced.
-use mathlib.Core.Path.{ap, ◌∙◌}
-use mir.Syntax.{w64}
-use mir.ValLaws.{to_z-of_z}
-use Rattle.lifting.specs.Wrap.{wrap}
-use Rattle.lifting.proofs.Bits.{back, wide, cast_fits, to64, near_held, add-near}
+-- The sum of the bits.
+use Rattle.lifting.proofs.WrapLaws.{added}
 use Rattle.lifting.proofs.add.Goals as goal
 
-pub overflow_add-a : goal.overflow_add-a
-overflow_add-a c = simp (wide c.args.a c.ranges.a, wide c.args.b c.ranges.b) (search (to64, add-near))
-
-pub reduce-requires : goal.reduce-requires
-reduce-requires c = simp (wide c.args.a c.ranges.a, wide c.args.b c.ranges.b) (search (near_held, add-near))
-
 pub returns : goal.returns
-returns c =
-    let f = c.before.ranges in
-    back c.reduce.type_inv ∙ c.reduce.ensures ∙ ap wrap (simp (wide _ f.a, wide _ f.b, to_z-of_z w64 _ (to64 (add-near _ _ f.a f.b))))
-
-pub overflow_cast-a : goal.overflow_cast-a
-overflow_cast-a c = search cast_fits
-
-pub overflow_cast-b : goal.overflow_cast-b
-overflow_cast-b c = search cast_fits
+returns c = added c.ranges.a c.ranges.b

@@ -5,4 +5,4 @@ use Rattle.figures.specs.Pieces.{crossed_stage}
 use Rattle.square_filter.proofs.crossed_stage.Goals as goal
 
 pub returns : goal.returns
-returns c3 = let c2 = c3.before in let c1 = c2.before in c3.mirrored.ensures ∙ c2.crossed.ensures ∙ ap (run crossed_stage) c1.split.ensures
+returns c3 = let c2 = c3.before in let c1 = c2.before in c3.mirrored.ensures ∙ c2.crossed_told.ensures.done ∙ ap (run crossed_stage) c1.split.ensures

@@ -6,6 +6,6 @@ use Rattle.square_filter.proofs.first_stage.Goals as goal
 
 pub returns : goal.returns
 returns c3 = let c2 = c3.before in let c1 = c2.before in record {
-  done = c3.mirrored.ensures ∙ (mirrored-run _ _ _ _ c2.hadamards.ensures.done).0 ∙ ap (run first) c1.split.ensures;
-  undone = c3.mirrored.ensures ∙ (mirrored-undo _ _ _ _ c2.hadamards.ensures.undone).0 ∙ ap (undo first) c1.split.ensures;
+  done = c3.mirrored.ensures ∙ (mirrored-run _ _ _ _ c2.hadamards_told.ensures.done).0 ∙ ap (run first) c1.split.ensures;
+  undone = c3.mirrored.ensures ∙ (mirrored-undo _ _ _ _ c2.hadamards_told.ensures.undone).0 ∙ ap (undo first) c1.split.ensures;
 }

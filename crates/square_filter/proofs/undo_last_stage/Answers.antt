@@ -5,4 +5,4 @@ use Rattle.square_filter.proofs.Stages.{mirrored-undo, last}
 use Rattle.square_filter.proofs.undo_last_stage.Goals as goal
 
 pub returns : goal.returns
-returns c3 = let c2 = c3.before in let c1 = c2.before in c3.mirrored.ensures ∙ (mirrored-undo _ _ _ _ c2.undo_post_hadamards.ensures).0 ∙ ap (undo last) c1.split.ensures
+returns c3 = let c2 = c3.before in let c1 = c2.before in c3.mirrored.ensures ∙ (mirrored-undo _ _ _ _ c2.undo_post_hadamards_told.ensures.done).0 ∙ ap (undo last) c1.split.ensures

@@ -2,11 +2,8 @@
 use Rattle.tries.proofs.Tries.{zero-planes, zero-samples}
 use Rattle.tries.proofs.take_zero.Goals as goal
 
-pub returns : goal.returns
-returns c =
-    let a = c.args in
-    let e = c.forward_planes.ensures in
-    record {
-      high_after = zero-planes a.mode a.size a.samples.now e;
-      second_after = zero-samples a.mode a.size a.samples.now e c.inverse_samples.ensures;
-    }
+pub returns-clause-high_after : goal.returns-clause-high_after
+returns-clause-high_after c = zero-planes c.args.frame.mode c.args.frame.size c.args.samples.now c.forward_planes.ensures
+
+pub returns-clause-second_after : goal.returns-clause-second_after
+returns-clause-second_after c = zero-samples c.args.frame.mode c.args.frame.size c.args.samples.now c.forward_planes.ensures c.inverse_samples.ensures

@@ -1,40 +1,29 @@
 -- A product outside ends the try; where none is, the planes are those restored, the second samples those of their inverse, and the look at all samples decides.
 use Prim.Native.Nat.{ℕ, ◌*◌}
-use mathlib.Core.Path.{◌≡◌, sym, ◌∙◌, ap}
+use mathlib.Core.Path.{◌∙◌, ap}
 use Rattle.lifting.specs.Tests.{all}
-use Rattle.picture.specs.Sizes.{macroblocks}
+use Rattle.picture.specs.Planes.{planes}
 use Rattle.differences.specs.Near.{near}
-use Rattle.differences.proofs.Differences.{not_yes}
-use Rattle.tries.proofs.Tries.{out_of_range, decided}
-use Rattle.picture.specs.declared.size.Size.{Size}
+use Rattle.tries.proofs.Tries.{Tried, out_of_range, decided}
 use Rattle.tries.proofs.try_index.Goals as goal
+use Rattle.tries.proofs.try_index.Goals.{After-all_near}
 
-pub returns-then-round_planes : goal.returns-then-round_planes
-returns-then-round_planes c =
-    let a = c.args in
-    record {
-      value = out_of_range a.mode a.size a.samples.now a.tolerance a.index c.forward_planes.ensures c.round_planes.ensures.value c.if-round_planes.true;
-      high_after = λ e. absurd (not_yes (sym e));
-      second_after = λ e. absurd (not_yes (sym e));
-    }
+pub returns-then-round_planes-clause-value : goal.returns-then-round_planes-clause-value
+returns-then-round_planes-clause-value c =
+    out_of_range c.args.frame.mode c.args.frame.size c.args.samples.now c.args.tolerance c.args.index c.forward_planes.ensures c.round_planes.ensures.value c.if-round_planes.true
 
--- n, as the definitions have it
-count : (size : Size) {n : ℕ} → n ≡ macroblocks size → 256 * macroblocks size ≡ 256 * n
-count size e = ap (λ (k : ℕ). 256 * k) (sym e)
-
-pub all_near-requires : goal.all_near-requires
-all_near-requires c =
-    let e = count c.args.size c.macroblocks.ensures.0 in
-    record {
-      n_bound = c.macroblocks.ensures.1;
-      a_len = c.requires.samples_len ∙ e;
-      b_len = c.inverse_samples.auto.samples ∙ c.requires.second_len ∙ e;
-    }
-
-pub returns : goal.returns
-returns c =
-    let a = c.args in
-    let near-all = c.all_near.ensures ∙ ap (λ (k : ℕ). all k (near a.tolerance a.samples.now c.inverse_samples.new.samples)) (sym (count a.size c.macroblocks.ensures.0)) in
+tried : (c : After-all_near)
+    → Tried c.args.frame.mode c.args.frame.size c.args.samples.now c.args.tolerance c.args.index c.all_near.result (planes c.round_planes.new.dc c.round_planes.new.low c.round_planes.new.high) c.inverse_samples.new.samples
+tried c =
     let left = c.if-round_planes.false in
-    let parts = decided a.mode a.size a.samples.now a.tolerance a.index c.forward_planes.ensures c.round_planes.ensures.value left (c.round_planes.ensures.high_after left) c.inverse_samples.ensures near-all in
-    record { value = parts.passes; high_after = λ e. parts.planes; second_after = λ e. parts.second }
+    decided c.args.frame.mode c.args.frame.size c.args.samples.now c.args.tolerance c.args.index c.forward_planes.ensures c.round_planes.ensures.value left (c.round_planes.ensures.high_after left) c.inverse_samples.ensures
+    (c.all_near.ensures ∙ ap (λ (n : ℕ). all (256 * n) (near c.args.tolerance c.args.samples.now c.inverse_samples.new.samples)) c.macroblocks.ensures.value)
+
+pub returns-clause-value : goal.returns-clause-value
+returns-clause-value c = (tried c).passes
+
+pub returns-clause-high_after : goal.returns-clause-high_after
+returns-clause-high_after c = λ e. (tried c).planes
+
+pub returns-clause-second_after : goal.returns-clause-second_after
+returns-clause-second_after c = λ e. (tried c).second

@@ -16,6 +16,6 @@ use Rattle.bands.proofs.in_place.round_plane.Given as goal
 abbrev pub product : ℕ → ℤ → ℤ
 product index x = restored (step_of index) (quantised (step_of index) x)
 
-abbrev pub invariant-loop-i : goal.invariant-loop-i
-invariant-loop-i l =
-    UpTo (λ k. wrap (product l.index (at l.initial.plane k))) l.initial.plane l.i l.plane × (l.out ≡ any_out (map (product l.index) (take l.i l.initial.plane)))
+abbrev pub invariant-loop-x : goal.invariant-loop-x
+invariant-loop-x l =
+    UpTo (λ k. wrap (product l.index (at l.initial.plane k))) l.initial.plane l.x-index l.plane × (l.out ≡ any_out (map (product l.index) (take l.x-index l.initial.plane)))

@@ -8,5 +8,5 @@ use Rattle.step_sizes.specs.Levels.{restored}
 use Rattle.bands.specs.Bands.{any_out}
 use Rattle.bands.proofs.plane.any_leaves_range.Given as goal
 
-abbrev pub invariant-loop-i : goal.invariant-loop-i
-invariant-loop-i l = (l.i ≤ length l.levels) × (l.out ≡ any_out (map (restored (step_of l.index)) (take l.i l.levels)))
+abbrev pub invariant-loop-level : goal.invariant-loop-level
+invariant-loop-level l = (l.level-index ≤ length l.levels) × (l.out ≡ any_out (map (restored (step_of l.index)) (take l.level-index l.levels)))

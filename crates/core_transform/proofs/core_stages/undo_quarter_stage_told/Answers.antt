@@ -1,18 +1,7 @@
--- Each four by what its call ensures and tells.
+-- What the four calls tell, one after the other.
+use mathlib.Core.Path.{◌∙◌}
 use Rattle.blocks.proofs.Blocks.{ask_four}
 use Rattle.core_transform.proofs.core_stages.undo_quarter_stage_told.Goals as goal
 
-pub returns : goal.returns
-returns c12 =
-    let c4 = c12.before.before.before.before.before.before.before.before in
-    let c3 = c4.before in
-    let c2 = c3.before in
-    let c1 = c2.before in
-    let p = c1.hadamard_told-p_told.ensures in
-    let q = c2.undo_odd_told-q_told.ensures in
-    let r = c3.undo_odd_told-r_told.ensures in
-    let s = c4.undo_odd_odd_told-s_told.ensures in
-    record {
-      done = record { p = p.undone; q = q.done; r = r.done; s = s.done };
-      told = ask_four c1.before.args.tell _ _ _ _ p.untold q.told r.told s.told;
-    }
+pub returns-clause-told : goal.returns-clause-told
+returns-clause-told c = c.joined.ensures.told ∙ ask_four c.args.tell _ _ _ _ c.hadamard_told.ensures.untold c.undo_odd_told.ensures.told c.undo_odd_told-2.ensures.told c.undo_odd_odd_told.ensures.told

@@ -6,8 +6,5 @@ use Rattle.forward_one_filters.proofs.filters.undo_edges.Goals as goal
 pub returns : goal.returns
 unfolding edges
 returns c =
-    let d4 = c.before.before in
-    let d3 = d4.before.before.before.before.before in
-    let d2 = d3.before.before.before.before.before in
-    let d1 = d2.before.before.before.before.before in
-    four_undone _ _ _ _ _ d1.undo_line.ensures d2.undo_line-2.ensures d3.undo_line-3.ensures d4.undo_line-4.ensures
+    four_undone _ _ _ _ _ (rw c.line.ensures at c.undo_line.ensures) (rw c.line-2.ensures at c.undo_line-2.ensures)
+    (rw c.line-3.ensures at c.undo_line-3.ensures) (rw c.line-4.ensures at c.undo_line-4.ensures)

@@ -6,8 +6,6 @@ use Rattle.forward_one_filters.proofs.told.corners_wrap.Goals as goal
 
 pub returns : goal.returns
 unfolding corners
-returns c4 =
-    let c3 = c4.before in
-    let c2 = c3.before in
-    let c1 = c2.before in
-    four-told undo_wraps _ _ _ _ _ c1.four_wraps-top_left.ensures c2.four_wraps-top_right.ensures c3.four_wraps-bottom_left.ensures c4.four_wraps-bottom_right.ensures
+returns c =
+    four-told undo_wraps _ _ _ _ _ (rw c.corner.ensures at c.four_wraps-top_left.ensures) (rw c.corner-2.ensures at c.four_wraps-top_right.ensures)
+    (rw c.corner-3.ensures at c.four_wraps-bottom_left.ensures) (rw c.corner-4.ensures at c.four_wraps-bottom_right.ensures)

@@ -8,4 +8,4 @@ use Rattle.forward_one_filters.proofs.told.four_wraps.Goals as goal
 
 pub returns : goal.returns
 unfolding filter_of
-returns c = use_told undo_wraps FourFilter four_filter _ _ c.unfiltered_wraps.ensures c.before.get_pairs.ensures
+returns c = use_told undo_wraps FourFilter four_filter _ _ c.unfiltered_wraps.ensures c.get_pairs.ensures

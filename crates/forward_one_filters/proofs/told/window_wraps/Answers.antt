@@ -8,4 +8,4 @@ use Rattle.forward_one_filters.proofs.told.window_wraps.Goals as goal
 
 pub returns : goal.returns
 unfolding square_filter_at
-returns c = use_told undo_wraps SquareFilter square_filter _ _ c.undo_square_filter_wraps.ensures c.before.get_window.ensures
+returns c = use_told undo_wraps SquareFilter square_filter _ _ c.undo_square_filter_wraps.ensures c.get_window.ensures

@@ -5,7 +5,4 @@ use Rattle.forward_one_filters.proofs.uses.undo_four_filter.Goals as goal
 
 pub returns : goal.returns
 unfolding filter_of
-returns c =
-    let w = c.before.before in
-    let u = w.before.before.before in
-    used _ _ _ _ _ _ _ u.before.get_pairs.ensures u.unfiltered-v.ensures w.put_pairs.ensures
+returns c = used _ _ _ _ _ _ _ (rw c.new.ensures at c.get_pairs.ensures) c.unfiltered-v.ensures c.put_pairs.ensures

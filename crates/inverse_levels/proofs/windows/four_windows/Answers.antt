@@ -1,62 +1,48 @@
--- Each lane that is stored is one use more, of numbers that no use before it has changed.
+-- Each square that is stored is one use more, of numbers that no use before it has changed.
+use Prim.Native.Nat.{ℕ, ◌+◌, ◌*◌, ◌≤◌, ◌<◌}
 use mathlib.Core.Path.{◌≡◌}
+use mathlib.Core.List.{List}
 use native.Mathlib.Omega.{arith}
-use Rattle.lifting.specs.Program.{SquareFilter}
+use lib.IntN.{ℤ}
+use borrow.Author.Rules.{rules}
+use Rattle.lifting.specs.Program.{SquareFilter, run, get, put, each}
 use Rattle.figures.specs.Figures.{square_filter}
-use Rattle.transform.specs.Level.{square_filter_at}
+use Rattle.transform.specs.Level.{square, square_filter_at}
+use Rattle.lanes.proofs.Beside.{squares_by}
 use Rattle.inverse_levels.proofs.Loops.{each_none}
 use Rattle.inverse_levels.proofs.Side.{side_more}
 use Rattle.inverse_levels.proofs.windows.four_windows.Goals as goal
 
+-- n windows are filtered and stored, and one more is
+module _ (w at : ℕ) (v out : List ℤ) (filtered : (l : ℕ) → l < 4 → get (square 16 (4 * l)) out ≡ run square_filter (get (square w (at + 4 * l)) v)) where
+  more : (n : ℕ) (u u' : List ℤ) → n < 4 → 4 * n + 4 ≤ w → u ≡ run (each n (λ i. square_filter_at w (at + 4 * i))) v → u' ≡ put (square w (at + 4 * n)) (get (square 16 (4 * n)) out) u
+      → u' ≡ run (each (n + 1) (λ i. square_filter_at w (at + 4 * i))) v
+  unfolding square_filter_at
+  more n u u' low room before stored = side_more SquareFilter square_filter w at n v _ _ room before (filtered n low) stored
+
 pub returns-then-n-eq1 : goal.returns-then-n-eq1
-unfolding square_filter_at
 returns-then-n-eq1 c =
-    let d1 = c.before.before in
-    let m = d1.before.before.before.before in
-    let s = m.before.before in
-    let a = s.args in
-    let v = a.grid.now in
-    rw c.if-n-eq1.true (side_more SquareFilter square_filter a.w a.at 0 v _ _ (omega (arith, s.requires)) (each_none _ v) (m.filter_four.ensures 0 (omega arith)) d1.move_square.ensures)
+    let a = c.args in
+    let step = more a.w a.at a.grid.now c.each_square-out.result (squares_by (run square_filter) (λ b d post. search rules) c.each_square-out.ensures) in
+    rw c.if-n-eq1.true (step 0 _ _ (omega arith) (omega arith) (each_none _ _) c.move_square.ensures)
 
 pub returns-then-n-eq2 : goal.returns-then-n-eq2
-unfolding square_filter_at
 returns-then-n-eq2 c =
-    let d2 = c.before.before in
-    let d1 = d2.before.before.before.before.before in
-    let m = d1.before.before.before.before in
-    let s = m.before.before in
-    let a = s.args in
-    let v = a.grid.now in
-    let r1 = side_more SquareFilter square_filter a.w a.at 0 v _ _ (omega (arith, s.requires)) (each_none _ v) (m.filter_four.ensures 0 (omega arith)) d1.move_square.ensures in
-    rw c.if-n-eq2.true (side_more SquareFilter square_filter a.w a.at 1 v _ _ (omega (arith, s.requires)) r1 (m.filter_four.ensures 1 (omega arith)) d2.move_square-2.ensures)
+    let a = c.args in
+    let step = more a.w a.at a.grid.now c.each_square-out.result (squares_by (run square_filter) (λ b d post. search rules) c.each_square-out.ensures) in
+    rw c.if-n-eq2.true (step 1 _ _ (omega arith) (omega arith) (step 0 _ _ (omega arith) (omega arith) (each_none _ _) c.move_square.ensures) c.move_square-2.ensures)
 
 pub returns-then-n-eq3 : goal.returns-then-n-eq3
-unfolding square_filter_at
 returns-then-n-eq3 c =
-    let d3 = c.before.before in
-    let d2 = d3.before.before.before.before.before in
-    let d1 = d2.before.before.before.before.before in
-    let m = d1.before.before.before.before in
-    let s = m.before.before in
-    let a = s.args in
-    let v = a.grid.now in
-    let r1 = side_more SquareFilter square_filter a.w a.at 0 v _ _ (omega (arith, s.requires)) (each_none _ v) (m.filter_four.ensures 0 (omega arith)) d1.move_square.ensures in
-    let r2 = side_more SquareFilter square_filter a.w a.at 1 v _ _ (omega (arith, s.requires)) r1 (m.filter_four.ensures 1 (omega arith)) d2.move_square-2.ensures in
-    rw c.if-n-eq3.true (side_more SquareFilter square_filter a.w a.at 2 v _ _ (omega (arith, s.requires)) r2 (m.filter_four.ensures 2 (omega arith)) d3.move_square-3.ensures)
+    let a = c.args in
+    let step = more a.w a.at a.grid.now c.each_square-out.result (squares_by (run square_filter) (λ b d post. search rules) c.each_square-out.ensures) in
+    let two = step 1 _ _ (omega arith) (omega arith) (step 0 _ _ (omega arith) (omega arith) (each_none _ _) c.move_square.ensures) c.move_square-2.ensures in
+    rw c.if-n-eq3.true (step 2 _ _ (omega arith) (omega arith) two c.move_square-3.ensures)
 
 pub returns : goal.returns
-unfolding square_filter_at
 returns c =
-    let d4 = c.before in
-    let d3 = d4.before.before.before.before.before in
-    let d2 = d3.before.before.before.before.before in
-    let d1 = d2.before.before.before.before.before in
-    let m = d1.before.before.before.before in
-    let s = m.before.before in
-    let a = s.args in
-    let v = a.grid.now in
-    let r1 = side_more SquareFilter square_filter a.w a.at 0 v _ _ (omega (arith, s.requires)) (each_none _ v) (m.filter_four.ensures 0 (omega arith)) d1.move_square.ensures in
-    let r2 = side_more SquareFilter square_filter a.w a.at 1 v _ _ (omega (arith, s.requires)) r1 (m.filter_four.ensures 1 (omega arith)) d2.move_square-2.ensures in
-    let r3 = side_more SquareFilter square_filter a.w a.at 2 v _ _ (omega (arith, s.requires)) r2 (m.filter_four.ensures 2 (omega arith)) d3.move_square-3.ensures in
-    let e : a.n ≡ 4 = omega (arith, s.requires, d4.before.before.before.if-n-eq3.false, d3.before.before.before.if-n-eq2.false, d2.before.before.before.if-n-eq1.false) in
-    rw e (side_more SquareFilter square_filter a.w a.at 3 v _ _ (omega (arith, s.requires)) r3 (m.filter_four.ensures 3 (omega arith)) d4.move_square-4.ensures)
+    let a = c.args in
+    let step = more a.w a.at a.grid.now c.each_square-out.result (squares_by (run square_filter) (λ b d post. search rules) c.each_square-out.ensures) in
+    let two = step 1 _ _ (omega arith) (omega arith) (step 0 _ _ (omega arith) (omega arith) (each_none _ _) c.move_square.ensures) c.move_square-2.ensures in
+    let e : a.n ≡ 4 = omega arith in
+    rw e (step 3 _ _ (omega arith) (omega arith) (step 2 _ _ (omega arith) (omega arith) two c.move_square-3.ensures) c.move_square-4.ensures)

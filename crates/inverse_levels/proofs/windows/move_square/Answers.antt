@@ -2,4 +2,4 @@
 use Rattle.inverse_levels.proofs.windows.move_square.Goals as goal
 
 pub returns : goal.returns
-returns c = let d = c.before in rw d.before.get_square.ensures at d.put_square.ensures
+returns c = rw c.get_square.ensures at c.put_square.ensures

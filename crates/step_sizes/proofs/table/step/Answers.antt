@@ -1,19 +1,23 @@
 -- The table's rule is a test at each of its entries, which is computed.
-use Prim.Native.Nat.{ℕ, ◌<◌}
-use mathlib.Core.Path.{◌≡◌, ◌∙◌}
-use mathlib.Core.List.{List}
+use Prim.Native.Nat.{ℕ, ◌<◌, ◌≤◌}
+use mathlib.Core.Path.{◌≡◌, sym, subst}
 use native.Mathlib.Omega.{arith}
-use lib.Dec.{T, eqb, eqb→eq}
+use lib.Dec.{eqb, eqb→eq}
 use lib.ListN.{get_or}
-use Rattle.lifting.specs.Tests.{all}
 use Rattle.lifting.proofs.Tests.{all-at}
-use Rattle.step_sizes.specs.Steps.{step_of}
-use Rattle.step_sizes.specs.Parts.{Entry}
+use Rattle.step_sizes.specs.declared.table.TheConstants.{STEPS}
+use Rattle.step_sizes.specs.Steps.{step_of, largest_step}
+use Rattle.step_sizes.proofs.Reciprocal.{every_step_works}
 use Rattle.step_sizes.proofs.table.step.Goals as goal
 
-rule : {table : List ℕ} {k value : ℕ} → Entry table k value → T (all 256 (λ i. eqb (get_or table i 0) (step_of i))) → k < 256 → value ≡ step_of k
-rule {table} {k} e t h = e.is ∙ eqb→eq (get_or table k 0) (step_of k) (all-at 256 (λ i. eqb (get_or table i 0) (step_of i)) t k h)
+rule : (k : ℕ) → k < 256 → get_or STEPS k 0 ≡ step_of k
+unfolding step_of
+rule k h = eqb→eq (get_or STEPS k 0) (step_of k) (all-at 256 (λ i. eqb (get_or STEPS i 0) (step_of i)) tt k h)
 
 pub returns : goal.returns
-unfolding step_of
-returns c = rule c.entry.ensures tt (omega arith)
+returns c = rule c.args.index (omega arith)
+
+pub invariant_of-result : goal.invariant_of-result
+invariant_of-result c =
+    let w = every_step_works c.args.index (omega arith) in
+    subst (λ (s : ℕ). (0 < s) × (s ≤ largest_step)) (sym (rule c.args.index (omega arith))) (w.positive, w.small)

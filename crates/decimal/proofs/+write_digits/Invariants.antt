@@ -1,5 +1,0 @@
--- The measure is n: its tenth is less.
-use Rattle.decimal.proofs.+write_digits.Given as goal
-
-abbrev pub decreases-write_digits : goal.decreases-write_digits
-decreases-write_digits l = l.n
