@@ -1,5 +1,5 @@
 -- Which checks decide the program's number: those that pass, before or after the others, change nothing.
-use Rattle.std.proofs.Common.{◌≡◌, ℕ, ◌*◌, ◌≤◌, List, ◌++◌, length, sym, ◌∙◌, refl, ℤ}
+use Rattle.std.proofs.Common.{◌≡◌, ℕ, ◌*◌, ◌≤◌, List, ◌++◌, length, sym, ap, ◌∙◌, refl, ℤ}
 use borrow.Author.Tests.{ltb-false}
 use Rattle.picture.specs.declared.refusals.Refusal.{Refusal}
 use Rattle.picture.specs.declared.size.Size.{Size}
@@ -43,6 +43,9 @@ module _ (bytes : List ℕ) (e : 0 ≡ first_of (start_checks bytes ++ count_che
 pub load-number : (bytes : List ℕ) (s : Planes) → Lengths (count_in bytes) s → load_number bytes s ≡ header_number bytes
 unfolding load_number header_number
 load-number bytes s l = last_passed (header_checks bytes) (plane_checks (count_in bytes) s) (fits-planes (count_in bytes) s l)
+
+pub loaded-settled : (bytes : List ℕ) {s was : Planes} → Lengths (count_in bytes) was → s ≡ loaded bytes was → s ≡ settled (header_number bytes) (planes_of bytes) was
+loaded-settled bytes {s} {was} l e = e ∙ ap (λ (k : ℕ). settled k (planes_of bytes) was) (load-number bytes was l)
 
 -- ---- the inverse of what was loaded
 

@@ -1,5 +1,5 @@
 -- The number of each call, by the checks in their order: header, load and save each refuse at the first that fails.
-use Rattle.std.proofs.Common.{◌≡◌, ℕ, List, ◌++◌, length, sym, ap, ◌∙◌}
+use Rattle.std.proofs.Common.{◌≡◌, ℕ, ◌+◌, ◌*◌, ◌≤◌, List, ◌++◌, length, arith, sym, ap, ◌∙◌}
 use Rattle.picture.specs.declared.refusals.Refusal.{Refusal}
 use Rattle.picture.specs.declared.size.Size.{Size}
 use Rattle.picture.specs.Sizes.{macroblocks}
@@ -12,7 +12,7 @@ use Rattle.plane_file.specs.declared.layout.Layout.{Layout}
 use Rattle.plane_file.specs.Layout.{total}
 use Rattle.plane_file.specs.Header.{words_of, start_of, layout_of}
 use Rattle.plane_file.specs.Numbers.{start_checks, total_check, header_checks, count_in, header_number, load_number, save_number}
-use Rattle.plane_file.proofs.Checks.{still_refused, then_checks, total_off, total_on}
+use Rattle.plane_file.proofs.Checks.{header-fits, still_refused, then_checks, total_off, total_on}
 
 -- ---- header
 
@@ -44,6 +44,12 @@ module _ (bytes : List ℕ) where
 
 -- ---- load: the header's checks, and then those of the planes
 
+-- where the planes begin they are followed by as many bytes as their numbers take
+pub record PlanesInside (bytes : List ℕ) (s : Planes) (laid : Layout) : Type 0 where
+  pub dc : laid.dc + 4 * length s.dc ≤ length bytes
+  pub low : laid.low + 4 * length s.low ≤ length bytes
+  pub high : laid.high + 4 * length s.high ≤ length bytes
+
 module _ (bytes : List ℕ) (s : Planes) where
   pub header_refuses : (refusal : Refusal) → number_of_refusal refusal ≡ header_number bytes → number_of_refusal refusal ≡ load_number bytes s
   unfolding load_number header_number
@@ -56,6 +62,12 @@ module _ (bytes : List ℕ) (s : Planes) where
 
     pub load_lengths : 0 ≡ first_of (plane_checks n s) → Lengths (count_in bytes) s
     load_lengths q = planes-fit (count_in bytes) s (sym (q ∙ ap (λ (m : ℕ). first_of (plane_checks m s)) count))
+
+    pub planes_inside : 0 ≡ first_of (plane_checks n s) → {laid : Layout} → laid ≡ layout_of (count_in bytes) → PlanesInside bytes s laid
+    planes_inside q is =
+        let long = load_lengths q in
+        let f = header-fits bytes (sym passed) in
+        rw is (record { dc = omega (arith, long.dc, f.whole); low = omega (arith, long.low, f.whole); high = omega (arith, long.high, f.whole) })
 
 -- ---- save: the checks of mode and size, of the planes and of the length
 

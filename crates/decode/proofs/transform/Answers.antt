@@ -1,11 +1,10 @@
 -- The planes have the file's lengths, so that loading has the header's number; what is loaded passes the inverse's checks.
-use Rattle.std.proofs.Common.{ℕ, ap, ◌∙◌}
+use Rattle.std.proofs.Common.{◌∙◌}
 use Rattle.std.proofs.lemmas.Result.{err_from_is_err_and}
-use Rattle.picture.specs.Numbers.{settled}
 use Rattle.picture.specs.Planes.{planes}
 use Rattle.plane_file.proofs.Checks.{kept}
-use Rattle.decode.specs.Program.{planes_of, samples_of}
-use Rattle.decode.proofs.Decide.{load-number, refused_not, samples_are}
+use Rattle.decode.specs.Program.{samples_of}
+use Rattle.decode.proofs.Decide.{load-number, loaded-settled, refused_not, samples_are}
 use Rattle.decode.proofs.transform.Goals as goal
 
 pub returns-in_err-start-clause-number : goal.returns-in_err-start-clause-number
@@ -15,10 +14,7 @@ returns-in_err-start-clause-number c =
     rw (p.1, p.2) (c.in_err-start.ensures.number ∙ load-number a.bytes.now (planes a.dc.now a.low.now a.high.now) c.requires.lengths)
 
 pub returns-in_err-start-clause-planes_after : goal.returns-in_err-start-clause-planes_after
-returns-in_err-start-clause-planes_after c =
-    let a = c.args in
-    let was = planes a.dc.now a.low.now a.high.now in
-    c.load_planes.ensures.planes_after ∙ ap (λ (k : ℕ). settled k (planes_of a.bytes.now) was) (load-number a.bytes.now was c.requires.lengths)
+returns-in_err-start-clause-planes_after c = loaded-settled c.args.bytes.now c.requires.lengths c.load_planes.ensures.planes_after
 
 pub returns-in_err-start-clause-samples_after : goal.returns-in_err-start-clause-samples_after
 returns-in_err-start-clause-samples_after c =
@@ -32,10 +28,7 @@ returns-in_err-inverse-clause-number c =
     absurd (refused_not a.bytes.now s.said c.get.ensures.value (planes a.dc.now a.low.now a.high.now) c.requires.lengths s.number c.load_planes.ensures.planes_after a.samples.now c.requires.samples_len _ c.in_err-inverse.ensures.number)
 
 pub returns-in_err-inverse-clause-planes_after : goal.returns-in_err-inverse-clause-planes_after
-returns-in_err-inverse-clause-planes_after c =
-    let a = c.args in
-    let was = planes a.dc.now a.low.now a.high.now in
-    c.load_planes.ensures.planes_after ∙ ap (λ (k : ℕ). settled k (planes_of a.bytes.now) was) (load-number a.bytes.now was c.requires.lengths)
+returns-in_err-inverse-clause-planes_after c = loaded-settled c.args.bytes.now c.requires.lengths c.load_planes.ensures.planes_after
 
 pub returns-in_err-inverse-clause-samples_after : goal.returns-in_err-inverse-clause-samples_after
 returns-in_err-inverse-clause-samples_after c =
@@ -49,10 +42,7 @@ returns-clause-number c =
     c.in_ok-start.ensures.number ∙ load-number a.bytes.now (planes a.dc.now a.low.now a.high.now) c.requires.lengths
 
 pub returns-clause-planes_after : goal.returns-clause-planes_after
-returns-clause-planes_after c =
-    let a = c.args in
-    let was = planes a.dc.now a.low.now a.high.now in
-    c.load_planes.ensures.planes_after ∙ ap (λ (k : ℕ). settled k (planes_of a.bytes.now) was) (load-number a.bytes.now was c.requires.lengths)
+returns-clause-planes_after c = loaded-settled c.args.bytes.now c.requires.lengths c.load_planes.ensures.planes_after
 
 pub returns-clause-samples_after : goal.returns-clause-samples_after
 returns-clause-samples_after c =

@@ -1,12 +1,12 @@
 -- The header's checks come first, then those of the planes; what they let through is read plane by plane.
-use Rattle.std.proofs.Common.{arith, sym, ◌∙◌}
+use Rattle.std.proofs.Common.{◌∙◌}
 use Rattle.std.proofs.lemmas.Result.{err_from_is_err_and}
 use Rattle.picture.specs.Planes.{planes}
 use Rattle.plane_file.specs.Layout.{planes_in}
 use Rattle.plane_file.specs.Numbers.{count_in}
-use Rattle.plane_file.proofs.Checks.{kept, changed, header-fits}
+use Rattle.plane_file.proofs.Checks.{kept, changed}
 use Rattle.plane_file.proofs.Written.{planes_read}
-use Rattle.plane_file.proofs.Calls.{counted, placed, header_refuses, load_by_planes, load_lengths}
+use Rattle.plane_file.proofs.Calls.{counted, placed, header_refuses, load_by_planes, load_lengths, planes_inside}
 use Rattle.plane_file.proofs.load.load_planes.Goals as goal
 
 pub returns-in_err-start-clause-number : goal.returns-in_err-start-clause-number
@@ -41,27 +41,21 @@ load_plane-requires c =
     let a = c.args in
     let s = c.in_ok-start.ensures in
     let n = c.macroblocks-n.ensures.value in
-    let long = load_lengths a.bytes.now (planes a.dc.now a.low.now a.high.now) s.number (counted a.bytes.now s.said n) c.in_ok-check.ensures in
-    let f = header-fits a.bytes.now (sym s.number) in
-    rw (placed a.bytes.now s.said n c.new-starts.ensures) (omega (arith, long.dc, f.whole))
+    (planes_inside a.bytes.now (planes a.dc.now a.low.now a.high.now) s.number (counted a.bytes.now s.said n) c.in_ok-check.ensures (placed a.bytes.now s.said n c.new-starts.ensures)).dc
 
 pub load_plane-requires-2 : goal.load_plane-requires-2
 load_plane-requires-2 c =
     let a = c.args in
     let s = c.in_ok-start.ensures in
     let n = c.macroblocks-n.ensures.value in
-    let long = load_lengths a.bytes.now (planes a.dc.now a.low.now a.high.now) s.number (counted a.bytes.now s.said n) c.in_ok-check.ensures in
-    let f = header-fits a.bytes.now (sym s.number) in
-    rw (placed a.bytes.now s.said n c.new-starts.ensures) (omega (arith, long.low, f.whole))
+    (planes_inside a.bytes.now (planes a.dc.now a.low.now a.high.now) s.number (counted a.bytes.now s.said n) c.in_ok-check.ensures (placed a.bytes.now s.said n c.new-starts.ensures)).low
 
 pub load_plane-requires-3 : goal.load_plane-requires-3
 load_plane-requires-3 c =
     let a = c.args in
     let s = c.in_ok-start.ensures in
     let n = c.macroblocks-n.ensures.value in
-    let long = load_lengths a.bytes.now (planes a.dc.now a.low.now a.high.now) s.number (counted a.bytes.now s.said n) c.in_ok-check.ensures in
-    let f = header-fits a.bytes.now (sym s.number) in
-    rw (placed a.bytes.now s.said n c.new-starts.ensures) (omega (arith, long.high, f.whole))
+    (planes_inside a.bytes.now (planes a.dc.now a.low.now a.high.now) s.number (counted a.bytes.now s.said n) c.in_ok-check.ensures (placed a.bytes.now s.said n c.new-starts.ensures)).high
 
 pub returns-clause-number : goal.returns-clause-number
 returns-clause-number c =
