@@ -23,7 +23,7 @@ pub fn quantise_plane(index: u8, plane: &[i32], levels: &mut [i32])
 pub fn any_leaves_range(index: u8, levels: &[i32]) -> bool
     ensures { result ≡ any_out (map (restored (step_of index)) levels.now) }
 {
-    let limits = limits_of(step(index));
+    let limits = limits_of(step(index).get());
     let mut out = false;
     for level in levels {
         out |= limits.exclude(*level);

@@ -6,6 +6,7 @@ ghost use Rattle.picture.specs.Numbers.{first_of, shape_checks};
 ghost use Rattle.bands.specs.Bands.{SameLengths};
 ghost use Rattle.bands.specs.Numbers.{GivesIndices, band_checks};
 
+use picture::area::Area;
 use picture::frame::Frame;
 use picture::planes::Planes;
 use picture::refusals::Refusal;
@@ -56,9 +57,25 @@ impl TryFrom<Steps> for Indices {
     }
 }
 
-// The step indices, once all that quantising and restoring share is checked: mode, size, the step indices, and the lengths of the planes read and of
-// those written.
+// The step indices, once they and the lengths of the planes read and of those written are checked, for n macroblocks.
 pub fn check_bands(
+    n: Area,
+    steps: Steps,
+    read: &Planes,
+    written: &Planes,
+) -> Result<Indices, Refusal>
+    ensures number { number_of result ≡ first_of (band_checks n steps read.now written.now) }
+    ensures same { IfOk result (λ indices. indices ≡ steps) }
+    ensures alike { OnOk result (SameLengths read.now written.now) }
+{
+    let indices = Indices::try_from(steps)?;
+    read.check(n)?;
+    written.check(n)?;
+    Ok(indices)
+}
+
+// The same behind the checks of mode and size: all that quantising and restoring share.
+pub fn check_call(
     mode: u32,
     size: Size,
     steps: Steps,
@@ -71,9 +88,5 @@ pub fn check_bands(
     ensures alike { OnOk result (SameLengths read.now written.now) }
 {
     let frame = Frame::new(mode, size)?;
-    let indices = Indices::try_from(steps)?;
-    let n = frame.size.macroblocks();
-    read.check(n)?;
-    written.check(n)?;
-    Ok(indices)
+    check_bands(frame.size.macroblocks(), steps, read, written)
 }

@@ -2,16 +2,28 @@
 #![tactic(auto)]
 
 ghost use Rattle.std.specs.Prelude.{◌≡◌, ◌+◌, ◌≤◌, leb, length};
-ghost use Rattle.decimal.specs.Text.{decimal, row, refused_line, over, written, count};
+ghost use Rattle.decimal.specs.Text.{digits, decimal, row, refused_line, over, written, count};
 
 use itoa::{Buffer, Integer};
+
+// How many digits n has.
+fn digits_len(n: u32) -> usize
+    ensures value { result ≡ length (digits n) }
+    ensures most { result ≤ 10 }
+{
+    match n.checked_ilog10() {
+        Some(power) => power as usize + 1,
+        None => 1,
+    }
+}
 
 // How many bytes x has as text.
 fn decimal_len(x: i32) -> usize
     ensures value { result ≡ length (decimal x) }
     ensures most { result ≤ 11 }
 {
-    Buffer::new().format(x).len()
+    let k = digits_len(x.unsigned_abs());
+    if x < 0 { k + 1 } else { k }
 }
 
 // Whether the row fits in `room` bytes. Behind each number is one byte more, a space or the newline.

@@ -62,7 +62,8 @@ pub fn undo_four_cores(grid: &[i32], w: usize, at: usize, rest: &mut [i32], from
     let mut zeros = [0; 4];
     let mut out = [0; 64];
     for l in 0..4 {
-        put_lane(undo_core(lane(&a, &b, &c, &d, l)), l, &mut zeros, &mut out);
+        let block = undo_core(lane(&a, &b, &c, &d, 12 - 4 * l));
+        put_lane(block, l, &mut zeros, &mut out);
     }
     move_lanes(&out, rest, from);
     zeros

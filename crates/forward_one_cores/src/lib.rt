@@ -29,7 +29,8 @@ fn get_blocks(dc: &[i32], low: &[i32], t: usize, from: usize, n: usize, held: &m
     }
 }
 
-// The first n blocks of two lists become the macroblocks from t on, whose low-pass numbers stand from `to` on.
+// The first n blocks of two lists become the macroblocks from t on, whose low-pass numbers stand from `to` on: block by block, since a move whose length the
+// compiler does not know is a call of memcpy, and the archive for C is to need none.
 fn move_blocks(
     zeros: &[i32; 4],
     rest: &[i32; 60],
@@ -43,9 +44,12 @@ fn move_blocks(
     requires room { Room (t + n) dc.old low.old × (to ≡ 15 * t) }
     ensures { Replaced t n (λ s. block_in zeros.now rest.now (s - t)) (block_in dc.old low.old) (block_in dc.new low.new) }
 {
-    let many = 15 * n;
-    dc[t..t + n].copy_from_slice(&zeros[..n]);
-    low[to..to + many].copy_from_slice(&rest[..many]);
+    for l in 0..n {
+        let from = 15 * l;
+        let at = to + from;
+        dc[t + l] = zeros[l];
+        low[at..at + 15].copy_from_slice(&rest[from..from + 15]);
+    }
 }
 
 // The n macroblocks from t on, whose low-pass numbers stand from `from` on, their cores undone. Lanes without a macroblock are undone too, and nothing is stored of them.

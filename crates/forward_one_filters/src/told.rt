@@ -92,11 +92,14 @@ fn filters_wrap(level: &LevelOne) -> bool
     let height = level.height();
     let squares = level.squares();
     let bottom = squares - width;
-    let windows = windows_wrap(level);
-    let in_rows = edges_wrap(level, Edges::rows(width, bottom));
-    let in_columns = edges_wrap(level, Edges::columns(width, height));
-    let corners = corners_wrap(level, width - 1, bottom, squares - 1);
-    windows | in_rows | in_columns | corners
+    if windows_wrap(level) {
+        return true;
+    }
+    if edges_wrap(level, Edges::rows(width, bottom)) {
+        return true;
+    }
+    edges_wrap(level, Edges::columns(width, height))
+        || corners_wrap(level, width - 1, bottom, squares - 1)
 }
 
 // The same where the level is filtered.

@@ -31,10 +31,11 @@ fn carry(strip: &mut [i32; 1296])
     ensures by_index { (y x : ℕ) → y < 18 → x < 2 → number strip.new (72 * y + x) ≡ number strip.old (72 * y + 64 + x) }
     ensures kept { Kept 0 18 0 2 strip.old strip.new }
 {
-    for y in 0..18 {
-        let row = 72 * y;
+    let mut row = 0;
+    for y in 0..18usize {
         strip[row] = strip[row + 64];
         strip[row + 1] = strip[row + 65];
+        row += 72;
     }
 }
 

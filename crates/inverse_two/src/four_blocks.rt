@@ -10,19 +10,19 @@ use grid::{get_four, put_square};
 use lanes::{lane, move_squares, row};
 use large_numbers::some_large;
 
-// The block of lane l: coefficient 0, then coefficients 1 to 4, 4 to 7, 8 to 11 and 12 to 15, of which 4 stands there twice.
+// The block of the lane whose numbers stand from `at` on: coefficient 0, then coefficients 1 to 4, 4 to 7, 8 to 11 and 12 to 15, of which 4 stands there twice.
 fn block(
     zero: i32,
     a: &[i32; 16],
     b: &[i32; 16],
     c: &[i32; 16],
     d: &[i32; 16],
-    l: usize,
+    at: usize,
 ) -> [[i32; 4]; 4]
-    requires { l < 4 }
-    ensures { flat result ≡ block_from zero a.now b.now c.now d.now (12 - 4 * l) }
+    requires { at + 3 < 16 }
+    ensures { flat result ≡ block_from zero a.now b.now c.now d.now at }
 {
-    let [first, second, third, fourth] = lane(a, b, c, d, l);
+    let [first, second, third, fourth] = lane(a, b, c, d, at);
     [[zero, first[0], first[1], first[2]], second, third, fourth]
 }
 
@@ -43,7 +43,7 @@ pub fn four_blocks(grid: &mut [i32], w: usize, cells: Cells, high: &[i32]) -> bo
     let fourth = row(high, 15, cells.high + 11);
     let mut out = [0; 64];
     for l in 0..4 {
-        let b = block(zeros[l], &first, &second, &third, &fourth, l);
+        let b = block(zeros[l], &first, &second, &third, &fourth, 12 - 4 * l);
         put_square(&mut out, 16, 4 * l, core(b));
     }
     move_squares(&out, grid, w, cells.samples);

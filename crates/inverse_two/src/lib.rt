@@ -37,9 +37,12 @@ fn macroblock(
 {
     let across = size.blocks().width.0 as usize;
     let w = size.samples().width.0 as usize;
+    let mut row = cells.after(16 * w, 4 * across, 240);
     let mut large = false;
-    for k in (0..4).rev() {
-        let row = cells.after(k * (4 * w), k * across, 60 * k);
+    for k in (0..4usize).rev() {
+        row.samples -= 4 * w;
+        row.numbers -= across;
+        row.high -= 60;
         let found = four_blocks(samples, w, row, high);
         large = large | found;
     }
@@ -101,13 +104,16 @@ fn top_row(samples: &mut [i32], size: PictureSize, high: &[i32]) -> bool
 {
     let across = size.blocks().width.0 as usize;
     let w = size.samples().width.0 as usize;
+    let mut cells = Cells {
+        samples: 16 * w,
+        numbers: 4 * across,
+        high: 240,
+    };
     let mut large = false;
     for y in (0..4).rev() {
-        let cells = Cells {
-            samples: y * (4 * w),
-            numbers: y * across,
-            high: 60 * y,
-        };
+        cells.samples -= 4 * w;
+        cells.numbers -= across;
+        cells.high -= 60;
         let found = block_row(samples, size, y, cells, high);
         large = large | found;
     }

@@ -6,7 +6,7 @@
 
 ghost use Rattle.std.specs.Prelude.{◌≡◌, ℕ, ◌+◌, ◌*◌, ◌<◌, ◌≤◌, length};
 ghost use Rattle.figures.specs.Block.{flat};
-ghost use Rattle.lanes.specs.Lanes.{lane_of, InLanes, SquareBy, Moved, Placed};
+ghost use Rattle.lanes.specs.Lanes.{rows_at, InLanes, SquareBy, Moved, Placed};
 
 use grid::{get_four, put_four, put_square};
 
@@ -23,12 +23,11 @@ pub fn row(s: &[i32], step: usize, from: usize) -> [i32; 16]
     row
 }
 
-// The square of lane l.
-pub fn lane(a: &[i32; 16], b: &[i32; 16], c: &[i32; 16], d: &[i32; 16], l: usize) -> [[i32; 4]; 4]
-    requires { l < 4 }
-    ensures { flat result ≡ lane_of a.now b.now c.now d.now l }
+// The square of the lane whose numbers stand from `at` on in each row: lane l's at 12 - 4 l.
+pub fn lane(a: &[i32; 16], b: &[i32; 16], c: &[i32; 16], d: &[i32; 16], at: usize) -> [[i32; 4]; 4]
+    requires { at + 3 < 16 }
+    ensures { flat result ≡ rows_at a.now b.now c.now d.now at }
 {
-    let at = 12 - 4 * l;
     [
         get_four(a, 1, at),
         get_four(b, 1, at),
@@ -54,7 +53,7 @@ pub fn each_square<F: Fn([[i32; 4]; 4]) -> [[i32; 4]; 4]>(
     let d = row(grid, 4, at + w + w + w);
     let mut out = [0; 64];
     for l in 0..4 {
-        put_square(&mut out, 16, 4 * l, f(lane(&a, &b, &c, &d, l)));
+        put_square(&mut out, 16, 4 * l, f(lane(&a, &b, &c, &d, 12 - 4 * l)));
     }
     out
 }

@@ -32,8 +32,7 @@ pub fn load_planes(
 ) -> Result<Start, Refusal>
     ensures number { number_of result ≡ load_number bytes.now (planes dc.old low.old high.old) }
     ensures said { IfOk result (λ start. start ≡ start_of (words_of bytes.now)) }
-    ensures planes_after { planes dc.new low.new high.new ≡
-        loaded bytes.now (planes dc.old low.old high.old) }
+    ensures planes_after { planes dc.new low.new high.new ≡ loaded bytes.now (planes dc.old low.old high.old) }
 {
     let start = read_whole(bytes)?;
     let n = start.size.macroblocks();

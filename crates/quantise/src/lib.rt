@@ -9,7 +9,7 @@ ghost use Rattle.bands.specs.Bands.{SameLengths};
 ghost use Rattle.quantise.specs.Quantise.{quantised_planes, quantise_number};
 
 use bands::plane::quantise_plane;
-use bands::steps::{Indices, Steps, check_bands};
+use bands::steps::{Indices, Steps, check_call};
 use picture::planes::Planes;
 use picture::refusals::Refusal;
 use picture::size::Size;
@@ -52,7 +52,7 @@ pub fn quantise(
         low: low_levels,
         high: high_levels,
     };
-    let indices = check_bands(mode, size, steps, read, &written)?;
+    let indices = check_call(mode, size, steps, read, &written)?;
     quantise_planes(indices, read, dc_levels, low_levels, high_levels);
     Ok(())
 }

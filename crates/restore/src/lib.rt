@@ -9,7 +9,7 @@ ghost use Rattle.bands.specs.Bands.{SameLengths};
 ghost use Rattle.restore.specs.Restore.{restored_planes, any_out_of, restore_number};
 
 use bands::plane::{any_leaves_range, restore_plane};
-use bands::steps::{Indices, Steps, check_bands};
+use bands::steps::{Indices, Steps, check_call};
 use picture::planes::Planes;
 use picture::refusals::Refusal;
 use picture::size::Size;
@@ -57,7 +57,7 @@ pub fn restore(
         settled (number_of result) (restored_planes steps levels.now) (planes dc.old low.old high.old) }
 {
     let written = Planes { dc, low, high };
-    let indices = check_bands(mode, size, steps, levels, &written)?;
+    let indices = check_call(mode, size, steps, levels, &written)?;
     if products_leave_range(indices, levels) {
         return Err(Refusal::Product);
     }

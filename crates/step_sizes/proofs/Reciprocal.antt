@@ -49,6 +49,7 @@ pub record Works (d : ℕ) : Type 0 where
   pub positive : 0 < d
   pub small : d ≤ largest_step
   pub shift : shift_of d < 64
+  pub wide : power_of d + d < 2 ^ 64
   pub multiplier : multiplier_of d < 2 ^ 32
   pub least : 2 ^ shift_of d ≤ multiplier_of d * d
   pub rest : (2147483648 + d / 2) * rest_of d < 2 ^ shift_of d
@@ -68,17 +69,18 @@ each_of (b ∷ tests) t = let p = and_yes b (together tests) t in (p.0, each_of 
 
 tests : ℕ → List Bool
 tests d =
-    ltb 0 d ∷ leb d largest_step ∷ ltb (shift_of d) 64
+    ltb 0 d ∷ leb d largest_step ∷ ltb (shift_of d) 64 ∷ ltb (power_of d + d) (2 ^ 64)
     ∷ ltb (multiplier_of d) (2 ^ 32) ∷ leb (2 ^ shift_of d) (multiplier_of d * d) ∷ ltb ((2147483648 + d / 2) * rest_of d) (2 ^ shift_of d) ∷ []
 
 at-step : (d : ℕ) → T (together (tests d)) → Works d
 unfolding tests
 at-step d t =
-    let (a, (b, (c, (f, (g, (h, _)))))) = each_of (tests d) t in
+    let (a, (b, (c, (e, (f, (g, (h, _))))))) = each_of (tests d) t in
     record {
       positive = ltb→lt _ _ a;
       small = leb→le _ _ b;
       shift = ltb→lt _ _ c;
+      wide = ltb→lt _ _ e;
       multiplier = ltb→lt _ _ f;
       least = leb→le _ _ g;
       rest = ltb→lt _ _ h;

@@ -1,5 +1,5 @@
 // One coefficient quantised, and one level restored.
-ghost use Rattle.std.specs.Prelude.{◌≡◌, false, ◌||◌, ◌≤◌};
+ghost use Rattle.std.specs.Prelude.{◌≡◌, false, ◌||◌, ◌≤◌, ◌<◌};
 ghost use Rattle.step_sizes.specs.Steps.{largest_step};
 ghost use Rattle.std.specs.Int.Signed.{lt_z};
 ghost use Rattle.lifting.specs.Wrap.{wrap};
@@ -7,7 +7,6 @@ ghost use Rattle.step_sizes.specs.Levels.{signed, quantised, restored, is_out_of
 ghost use Rattle.step_sizes.specs.Parts.{LimitsOf};
 
 use crate::division::{Divisor, divide};
-use crate::table::StepSize;
 
 // The sign of x with another magnitude, reduced into the signed 32-bit range.
 pub(crate) fn with_sign(x: i32, magnitude: u32) -> i32
@@ -40,13 +39,13 @@ impl Limits {
 }
 
 // The levels whose product with the step is in the signed 32-bit range.
-pub fn limits_of(step: StepSize) -> Limits
+pub fn limits_of(step: u32) -> Limits
+    requires { 0 < step }
     ensures { LimitsOf step result }
 {
-    let step = step.get() as i32;
     Limits {
-        least: i32::MIN / step,
-        most: i32::MAX / step,
+        least: with_sign(-1, 2147483648 / step),
+        most: (2147483647 / step) as i32,
     }
 }
 

@@ -13,7 +13,7 @@ loop-l-preserved c =
     let v = c.loop-l.invariant in
     let e = c.put_lane.ensures in
     let its = lane_of c.row-a.result c.row-b.result c.row-c.result c.row-d.result in
-    (omega arith, omega arith, lanes_next its c.loop-l.l _ (omega arith) (c.undo_core.ensures ∙ ap (undo core) {y = its c.loop-l.l} c.lane.ensures) v.2 e.placed e.in_lane e.by_index)
+    (omega arith, omega arith, lanes_next its c.loop-l.l _ (omega arith) (c.undo_core-block.ensures ∙ ap (undo core) {y = its c.loop-l.l} c.lane.ensures) v.2 e.placed e.in_lane e.by_index)
 
 pub returns : goal.returns
 returns c =

@@ -15,7 +15,7 @@ pub loop-level-preserved : goal.loop-level-preserved
 loop-level-preserved c =
     let i = c.loop-level.level-index in
     let x = at c.args.levels.now i in
-    let found = (rw (back {x = x} (omega arith)) at c.exclude-out.ensures) ∙ (rw c.step.ensures at (c.limits_of-limits.ensures.outside x)) in
+    let found = (rw (back {x = x} (omega arith)) at c.exclude-out.ensures) ∙ (rw (c.get.ensures.value, c.step.ensures) at (c.limits_of-limits.ensures.outside x)) in
     (omega arith, one_looked (restored (step_of c.args.index)) c.args.levels.now i (omega arith) c.loop-level.invariant.1 found)
 
 pub returns : goal.returns

@@ -1,7 +1,7 @@
--- What the windows, the rows, the columns and the corners tell.
+-- What the windows, the rows, the columns and the corners tell, up to the first that wraps.
 use Prim.Native.Nat.{◌-◌}
-use mathlib.Core.Path.{◌≡◌}
-use mathlib.Core.Bool.{◌||◌, or_assoc}
+use mathlib.Core.Path.{◌≡◌, sym, ◌∙◌}
+use mathlib.Core.Bool.{◌||◌}
 use mathlib.Core.List.{List}
 use native.Mathlib.Omega.{arith}
 use lib.IntN.{ℤ}
@@ -26,17 +26,33 @@ stages size s v =
     let bottom = macroblocks size - size.width.0 in
     rw (rows_are size s bottom (omega arith), columns_are size s, corners_are size s bottom (macroblocks size - 1) (omega arith) (omega arith)) (filters-told _ _ s.wide s.tall v)
 
-pub edges_wrap-in_columns-requires : goal.edges_wrap-in_columns-requires
-edges_wrap-in_columns-requires c =
+pub returns-then-windows_wrap : goal.returns-then-windows_wrap
+returns-then-windows_wrap c = let grid = c.args.level.now in rw (stages grid.size c.width-width.ensures.sized grid.numbers, sym c.windows_wrap.ensures ∙ c.if-windows_wrap.true)
+
+pub returns-then-edges_wrap : goal.returns-then-edges_wrap
+returns-then-edges_wrap c =
+    let grid = c.args.level.now in
+    let rows = rw (c.rows.ensures, c.width-width.ensures.value, c.squares-squares.ensures.value) at c.edges_wrap.ensures in
+    rw (stages grid.size c.width-width.ensures.sized grid.numbers, sym c.windows_wrap.ensures ∙ c.if-windows_wrap.false, sym rows ∙ c.if-edges_wrap.true)
+
+pub edges_wrap-requires-2 : goal.edges_wrap-requires-2
+edges_wrap-requires-2 c =
     let s = c.width-width.ensures.sized in
     let up = row-above c.args.level.now.size.height.0 c.args.level.now.size.width.0 s.tall in
     rw (c.columns.ensures, c.width-width.ensures.value, c.height-height.ensures.value) (omega arith, omega arith)
 
-pub returns : goal.returns
-returns c =
+pub returns-then-edges_wrap-2 : goal.returns-then-edges_wrap-2
+returns-then-edges_wrap-2 c =
     let grid = c.args.level.now in
-    let s = c.width-width.ensures.sized in
-    let rows = rw (c.rows.ensures, c.width-width.ensures.value, c.squares-squares.ensures.value) at c.edges_wrap-in_rows.ensures in
-    let columns = rw (c.columns.ensures, c.width-width.ensures.value, c.height-height.ensures.value) at c.edges_wrap-in_columns.ensures in
-    let corners = rw (c.width-width.ensures.value, c.squares-squares.ensures.value) at c.corners_wrap-corners.ensures in
-    rw (stages grid.size s grid.numbers, c.windows_wrap-windows.ensures, rows, columns, corners) (simp or_assoc)
+    let rows = rw (c.rows.ensures, c.width-width.ensures.value, c.squares-squares.ensures.value) at c.edges_wrap.ensures in
+    let columns = rw (c.columns.ensures, c.width-width.ensures.value, c.height-height.ensures.value) at c.edges_wrap-2.ensures in
+    c.if-edges_wrap-2.true
+    ∙ rw (stages grid.size c.width-width.ensures.sized grid.numbers, sym c.windows_wrap.ensures ∙ c.if-windows_wrap.false, sym rows ∙ c.if-edges_wrap.false, sym columns ∙ c.if-edges_wrap-2.true)
+
+pub returns-else-edges_wrap-2 : goal.returns-else-edges_wrap-2
+returns-else-edges_wrap-2 c =
+    let grid = c.args.level.now in
+    let rows = rw (c.rows.ensures, c.width-width.ensures.value, c.squares-squares.ensures.value) at c.edges_wrap.ensures in
+    let columns = rw (c.columns.ensures, c.width-width.ensures.value, c.height-height.ensures.value) at c.edges_wrap-2.ensures in
+    rw (stages grid.size c.width-width.ensures.sized grid.numbers, sym c.windows_wrap.ensures ∙ c.if-windows_wrap.false, sym rows ∙ c.if-edges_wrap.false, sym columns ∙ c.if-edges_wrap-2.false)
+    (rw (c.width-width.ensures.value, c.squares-squares.ensures.value) at c.corners_wrap.ensures)
