@@ -4,7 +4,7 @@ use mathlib.Core.Path.{◌≡◌, sym, ◌∙◌, ap}
 use mathlib.Core.Bool.{Bool, true, ◌&&◌}
 use mathlib.Core.List.{List, [], ◌∷◌}
 use native.Mathlib.Omega.{arith}
-use native.Mathlib.Nat.{le_trans, le_of_eq, lt_of_lt_of_le, lt_of_le_of_lt, mul_assoc, mul_right_comm, mul-add, mul-le-mul_left, mul-le-mul_right, lt_of_mul-lt-mul_right, lt-suc_self, div-mul-le_self, div-lt_iff_lt-mul, div-eq_of_lt-le, suc-mul}
+use native.Mathlib.Nat.{le_trans, le_of_eq, lt_of_lt_of_le, lt_of_le_of_lt, mul_assoc, mul_right_comm, mul-add, mul-le-mul_left, mul-le-mul_right, lt_of_mul-lt-mul_right, lt-suc_self, div-mul-le_self, div-lt_iff_lt-mul, div-eq_of_lt-le, suc-mul, pow-le-pow_right}
 use native.Mathlib.Numerals.{add-one}
 use lib.Dec.{T, ltb, leb, ltb→lt, leb→le}
 use lib.Count.{count_leading_zeros}
@@ -54,6 +54,12 @@ pub record Works (d : ℕ) : Type 0 where
   pub least : 2 ^ shift_of d ≤ multiplier_of d * d
   pub rest : (2147483648 + d / 2) * rest_of d < 2 ^ shift_of d
 
+-- the field `wide` follows from `small`: the power is at most 2^63
+pub power_fits : (d : ℕ) → d ≤ largest_step → power_of d + d < 2 ^ 64
+power_fits d small =
+    let most : 2 ^ shift_of d ≤ 2 ^ 63 = pow-le-pow_right (omega arith) {j = 63} (omega arith) in
+    omega (arith, most)
+
 -- several tests at once
 abbrev together : List Bool → Bool
 together [] = true
@@ -69,18 +75,18 @@ each_of (b ∷ tests) t = let p = and_yes b (together tests) t in (p.0, each_of 
 
 tests : ℕ → List Bool
 tests d =
-    ltb 0 d ∷ leb d largest_step ∷ ltb (shift_of d) 64 ∷ ltb (power_of d + d) (2 ^ 64)
+    ltb 0 d ∷ leb d largest_step ∷ ltb (shift_of d) 64
     ∷ ltb (multiplier_of d) (2 ^ 32) ∷ leb (2 ^ shift_of d) (multiplier_of d * d) ∷ ltb ((2147483648 + d / 2) * rest_of d) (2 ^ shift_of d) ∷ []
 
 at-step : (d : ℕ) → T (together (tests d)) → Works d
 unfolding tests
 at-step d t =
-    let (a, (b, (c, (e, (f, (g, (h, _))))))) = each_of (tests d) t in
+    let (a, (b, (c, (f, (g, (h, _)))))) = each_of (tests d) t in
     record {
       positive = ltb→lt _ _ a;
       small = leb→le _ _ b;
       shift = ltb→lt _ _ c;
-      wide = ltb→lt _ _ e;
+      wide = power_fits d (leb→le _ _ b);
       multiplier = ltb→lt _ _ f;
       least = leb→le _ _ g;
       rest = ltb→lt _ _ h;
